@@ -1,0 +1,9 @@
+pub mod Wordings
+pub mod Several
+pub mod Links
+pub mod Told
+pub mod Rings
+pub mod Looped
+pub mod Heads
+pub mod Wholes
+pub mod Labelling

@@ -1,0 +1,66 @@
+use mathlib.Core.Path.{_≡_, refl, sym, ap, _∙_}
+use native.Mathlib.Omega.{arith}
+use Rattle.std.proofs.shelf.Results.{err-from-errBy}
+use Rattle.sheet.proofs.Labelling.{stops-numeral, stops-twice, stops-length, stops-wording, goes}
+use Rattle.sheet.proofs.labels.read_label.Needs as need
+
+pub returns-in-Break-numeral : need.returns-in-Break-numeral
+returns-in-Break-numeral c =
+    let p = err-from-errBy (c .from-residual .result) (c .from-residual .ensures .1) in
+    let m = c .in-Break-numeral .ensures tt in
+    rw (p .1, p .2) record { value = λ before marked. sym (stops-numeral _ before _ _ (m .value)); seen = tt; file = m .file }
+
+pub returns-then-seen-numeral : need.returns-then-seen-numeral
+returns-then-seen-numeral c =
+    let m = c .in-Continue-numeral .ensures tt in
+    record {
+      value = λ before marked.
+          rw (c .fault .ensures, c .place-at .ensures)
+          (sym (stops-twice _ before _ _ _ _ (m .value) (m .file) (sym (marked (c .in-Continue-numeral .numeral) (omega arith)) ∙ c .if-seen-numeral .taken)));
+      seen = tt;
+      file = m .file;
+    }
+
+pub returns-in-Break-length : need.returns-in-Break-length
+returns-in-Break-length c =
+    let p = err-from-errBy (c .from-residual-in-Break-length .result) (c .from-residual-in-Break-length .ensures .1) in
+    let m = c .in-Continue-numeral .ensures tt in
+    let n = c .in-Break-length .ensures tt in
+    rw (p .1, p .2)
+    record {
+      value = λ before marked.
+          sym (stops-length _ before _ _ _ _ (m .value) (m .file) _ (sym (marked (c .in-Continue-numeral .numeral) (omega arith)) ∙ c .if-seen-numeral .left) (n .value));
+      seen = tt;
+      file = n .file ∙ m .file;
+    }
+
+pub returns-in-Break--text : need.returns-in-Break--text
+returns-in-Break--text c =
+    let p = err-from-errBy (c .from-residual-in-Break--text .result) (c .from-residual-in-Break--text .ensures .1) in
+    let m = c .in-Continue-numeral .ensures tt in
+    let n = c .in-Continue-length .ensures tt in
+    let t = c .in-Break--text .ensures tt in
+    rw (p .1, p .2)
+    record {
+      value = λ before marked.
+          sym
+          (stops-wording _ before _ _ _ _ (m .value) (m .file) _ _ _ (n .value) (n .file) _
+          (sym (marked (c .in-Continue-numeral .numeral) (omega arith)) ∙ c .if-seen-numeral .left) (t .value));
+      seen = tt;
+      file = t .file ∙ n .file ∙ m .file;
+    }
+
+pub returns : need.returns
+returns c =
+    let m = c .in-Continue-numeral .ensures tt in
+    let n = c .in-Continue-length .ensures tt in
+    let t = c .in-Continue--text .ensures tt in
+    record {
+      value = λ before marked.
+          rw (c .place-place .ensures)
+          (sym
+          (goes _ before _ _ _ _ (m .value) (m .file) _ _ _ (n .value) (n .file) _
+          (sym (marked (c .in-Continue-numeral .numeral) (omega arith)) ∙ c .if-seen-numeral .left) (t .value)));
+      seen = (omega arith, c .if-seen-numeral .left, refl);
+      file = t .file ∙ n .file ∙ m .file;
+    }

@@ -1,0 +1,5 @@
+pub mod Reading
+pub mod Number
+pub mod Kinds
+pub mod Sheets
+pub mod Files

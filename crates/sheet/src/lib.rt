@@ -1,0 +1,10 @@
+//! The sheet file: read, kept in the caller's tables, or refused at a byte; and the wordings of its labels.
+mod body;
+mod labels;
+mod reader;
+mod tables;
+
+pub use reader::Reader;
+pub use tables::Edge;
+pub use tables::Loop;
+pub use tables::Size;
