@@ -58,3 +58,7 @@ pub puts-more : {X : Type 0} (k₀ k k′ : Kept X) (more : List X) (i : ℕ) (x
 puts-more k₀ k k′ more i x h r e e′ =
     let next : take (i + 1) more ≡ take i more ++ x ∷ [] = take-more more i x h ∙ ap (λ y. take i more ++ y ∷ []) (sym r) in
     puts-next k₀ k k′ (take i more) x e e′ ∙ ap (puts k₀) (sym next)
+
+-- what the slice holds then
+pub over-from-puts : {X : Type 0} (k k₁ : Kept X) (items xs : List X) → k ≡ puts k₁ xs → k₁ ≡ kept items 0 → length xs ≤ length items → k .items ≡ over xs items
+over-from-puts k k₁ items xs e f h = ap (λ (j : Kept _). j .items) (e ∙ ap (λ j. puts j xs) f ∙ puts-over items xs h)

@@ -7,3 +7,4 @@ pub mod Looped
 pub mod Heads
 pub mod Wholes
 pub mod Labelling
+pub mod Loads

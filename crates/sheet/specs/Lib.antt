@@ -3,3 +3,4 @@ pub mod Number
 pub mod Kinds
 pub mod Sheets
 pub mod Files
+pub mod Load

@@ -121,6 +121,7 @@ fn read_loops(
         × (kept (now (now (edges .exit) .items)) (now (edges .exit) .count) ≡ puts (kept (now (now (edges .entry) .items)) (now (edges .entry) .count)) (joined (λ r. ringEdges (r .corners)) rs))
         × (kept (now (now (loops .exit) .items)) (now (loops .exit) .count) ≡ puts (kept (now (now (loops .entry) .items)) (now (loops .entry) .count)) (loopsFrom 0 rs))) ⌝ }
     ensures file { λ _. ⌜ now (now (reader .exit) .file) ≡ now (now (reader .entry) .file) ⌝ }
+    ensures within { λ r. ⌜ made r (λ y. y ≤ 6150) ⌝ }
     ensures edges_lent { λ _. ⌜ name (now (edges .exit) .items) ≡ name (now (edges .entry) .items) ⌝ }
     ensures loops_lent { λ _. ⌜ name (now (loops .exit) .items) ≡ name (now (loops .entry) .items) ⌝ }
 {
@@ -171,6 +172,7 @@ pub fn read_sheet(
         × (kept (now (now (edges .exit) .items)) (now (edges .exit) .count) ≡ puts (kept (now (now (edges .entry) .items)) (now (edges .entry) .count)) (edgesOf s))
         × (kept (now (now (loops .exit) .items)) (now (loops .exit) .count) ≡ puts (kept (now (now (loops .entry) .items)) (now (loops .entry) .count)) (loopsOf s))) ⌝ }
     ensures file { λ _. ⌜ now (now (reader .exit) .file) ≡ now (now (reader .entry) .file) ⌝ }
+    ensures within { λ r. ⌜ made r (λ y. (y .inner ≤ 1024) × (y .loops ≤ 2050) × (y .corners ≤ 6150)) ⌝ }
     ensures points_lent { λ _. ⌜ name (now (points .exit) .items) ≡ name (now (points .entry) .items) ⌝ }
     ensures edges_lent { λ _. ⌜ name (now (edges .exit) .items) ≡ name (now (edges .entry) .items) ⌝ }
     ensures loops_lent { λ _. ⌜ name (now (loops .exit) .items) ≡ name (now (loops .entry) .items) ⌝ }

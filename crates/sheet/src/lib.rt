@@ -1,9 +1,12 @@
 //! The sheet file: read, kept in the caller's tables, or refused at a byte; and the wordings of its labels.
 mod body;
 mod labels;
+mod loading;
 mod reader;
 mod tables;
 
+pub use loading::have_room;
+pub use loading::load;
 pub use reader::Reader;
 pub use tables::Edge;
 pub use tables::Loop;

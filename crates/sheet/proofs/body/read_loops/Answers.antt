@@ -7,7 +7,7 @@ use Rattle.sheet.proofs.Several.{sofar-none, sofar-more, sofar-fault, sofar-al
 use Rattle.sheet.proofs.body.read_loops.Needs as need
 
 pub loop-done-holds : need.loop-done-holds
-loop-done-holds c = (sofar-none _ _ _ _ _ _ (looped-none _ _), refl, refl)
+loop-done-holds c = (sofar-none _ _ _ _ _ _ (looped-none _ _), refl, refl, omega arith)
 
 pub returns-in-Break-entry : need.returns-in-Break-entry
 returns-in-Break-entry c =
@@ -18,6 +18,7 @@ returns-in-Break-entry c =
       value =
           sofar-fault _ _ _ _ _ _ _ _ _ (c .loop-done .inv .0) _ (c .loop-done-test .taken)
           (λ done h. sym (v .value) ∙ ap (λ s. ring (c .args .vertices) s (c .loop-done .reader .file .now) (c .loop-done .reader .at)) (h .starts));
+      within = tt;
       file = v .file ∙ c .loop-done .inv .0 .file-same;
       edges-lent = v .lent ∙ c .loop-done .inv .1;
       loops-lent = c .loop-done .inv .2;
@@ -33,6 +34,7 @@ loop-done-again c =
           (λ done h. looped-more _ _ _ _ _ done h x _ _ _ (v .value .2 .0) (v .value .2 .2) (c .append .ensures .kept)),
       v .lent ∙ c .loop-done .inv .1,
       c .append .ensures .lent ∙ c .loop-done .inv .2,
+      v .value .2 .1,
     )
 
 pub returns : need.returns
@@ -40,6 +42,7 @@ returns c =
     let a = sofar-all _ _ _ _ _ _ _ _ _ (c .loop-done .inv .0) (c .loop-done-test .left) in
     record {
       value = (a .0, a .1, (a .2 .starts, omega (arith, a .3), a .2 .edges, a .2 .loops));
+      within = c .loop-done .inv .3;
       file = c .loop-done .inv .0 .file-same;
       edges-lent = c .loop-done .inv .1;
       loops-lent = c .loop-done .inv .2;

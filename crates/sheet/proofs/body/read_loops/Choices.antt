@@ -1,6 +1,7 @@
 use denote.Ref.{name}
 use mathlib.Core.List.{[]}
 use mathlib.Core.Path.{_≡_}
+use Prim.Native.Nat.{_≤_}
 use Rattle.lent.specs.Kept.{kept}
 use Rattle.sheet.specs.Files.{ring}
 use Rattle.sheet.specs.Sheets.{cornersIn}
@@ -15,3 +16,4 @@ Inv-loop-done l =
     (kept (l .entry .loops .items .now) (l .entry .loops .count)) (kept (l .loops .items .now) (l .loops .count)))
     × (name (l .edges .items) ≡ name (l .entry .edges .items))
     × (name (l .loops .items) ≡ name (l .entry .loops .items))
+    × (l .start ≤ 6150)

@@ -11,7 +11,7 @@ pub returns-in-Break-head : need.returns-in-Break-head
 returns-in-Break-head c =
     let p = err-from-errBy (c .from-residual .result) (c .from-residual .ensures .1) in
     let h = c .in-Break-head .ensures tt in
-    rw (p .1, p .2) record { value = stops-head _ _ _ (h .value); file = h .file; points-lent = refl; edges-lent = refl; loops-lent = refl }
+    rw (p .1, p .2) record { value = stops-head _ _ _ (h .value); within = tt; file = h .file; points-lent = refl; edges-lent = refl; loops-lent = refl }
 
 pub returns-in-Break-read-vertices : need.returns-in-Break-read-vertices
 returns-in-Break-read-vertices c =
@@ -21,6 +21,7 @@ returns-in-Break-read-vertices c =
     rw (p .1, p .2)
     record {
       value = stops-vertices _ _ _ _ _ (h .value) (h .file) _ (vs .value);
+      within = tt;
       file = vs .file ∙ h .file;
       points-lent = vs .lent ∙ c .extend .ensures .lent;
       edges-lent = refl;
@@ -36,6 +37,7 @@ returns-in-Break-count c =
     rw (p .1, p .2)
     record {
       value = stops-count _ _ _ _ _ (h .value) (h .file) _ _ _ (vs .value .1) (vs .file) _ (n .value);
+      within = tt;
       file = n .file ∙ vs .file ∙ h .file;
       points-lent = vs .lent ∙ c .extend .ensures .lent;
       edges-lent = refl;
@@ -52,6 +54,7 @@ returns-in-Break-corners c =
     rw (p .1, p .2)
     record {
       value = stops-loops _ _ _ _ _ (h .value) (h .file) _ _ _ (vs .value .1) (vs .file) _ _ _ (n .value) (n .file) _ (rs .value);
+      within = tt;
       file = rs .file ∙ n .file ∙ vs .file ∙ h .file;
       points-lent = vs .lent ∙ c .extend .ensures .lent;
       edges-lent = rs .edges-lent;
@@ -75,6 +78,7 @@ returns c =
           rs .value .2 .3,
         ),
       );
+      within = (h .within, n .within, rs .within);
       file = rs .file ∙ n .file ∙ vs .file ∙ h .file;
       points-lent = vs .lent ∙ c .extend .ensures .lent;
       edges-lent = c .extend-2 .ensures .lent ∙ rs .edges-lent;

@@ -1,0 +1,90 @@
+-- What a load takes, step by step, and that the tables have room for it.
+use mathlib.Core.Path.{_≡_, refl, sym, ap, _∙_}
+use mathlib.Core.Bool.{true, false}
+use mathlib.Core.List.{List, [], _∷_, _++_}
+use Prim.Native.Nat.{ℕ, suc, _+_, _≤_}
+use native.Mathlib.Omega.{arith}
+use lib.ListN.{length, take}
+use Rattle.std.specs.Joined.{joined}
+use Rattle.std.specs.declared.result.Result.{Result}
+use Rattle.std.specs.declared.result.Result.the-variants.{Ok, Err}
+use Rattle.std.proofs.shelf.Lists.{length-append, length-push}
+use Rattle.std.proofs.shelf.Ways.{tells}
+use Rattle.refusal.specs.declared.Cause.the-variants.{TableTooShort}
+use Rattle.refusal.specs.declared.Refusal.{Refusal}
+use Rattle.sheet.specs.declared.tables.Edge.{Edge}
+use Rattle.sheet.specs.declared.tables.Label.{Label}
+use Rattle.sheet.specs.declared.tables.Size.{Size}
+use Rattle.sheet.specs.Files.{contents, labels, sheet}
+use Rattle.sheet.specs.Load.{roomy, taken}
+use Rattle.sheet.specs.Reading.{andThen, fault}
+use Rattle.sheet.specs.Sheets.{Ring, Sheet, cornersIn, edgesOf, links, loopsFrom, loopsOf, outside, pointsOf, ringEdges, sizeOf}
+
+links-length : (v : ℕ) (vs : List ℕ) → length (links (v ∷ vs)) ≡ length vs
+links-length v [] = refl
+links-length v (w ∷ vs) = ap suc (links-length w vs)
+
+ring-length : (cs : List ℕ) → length (ringEdges cs) ≡ length cs
+ring-length [] = refl
+ring-length (c ∷ cs) = links-length c (cs ++ c ∷ []) ∙ length-push cs c ∙ omega arith
+
+all-length : (rs : List Ring) → length (joined (λ r. ringEdges (r .corners)) rs) ≡ cornersIn rs
+all-length [] = refl
+all-length (r ∷ rs) =
+    let h = all-length rs in
+    let l = length-append (ringEdges (r .corners)) (joined (λ r. ringEdges (r .corners)) rs) in
+    let m = ring-length (r .corners) in
+    omega arith
+
+edges-length : (s : Sheet) → length (edgesOf s) ≡ cornersIn (s .rings) + 4
+edges-length s =
+    let l = length-append (joined (λ r. ringEdges (r .corners)) (s .rings)) outside in
+    let h = all-length (s .rings) in
+    omega arith
+
+loops-length-from : (start : ℕ) (rs : List Ring) → length (loopsFrom start rs) ≡ length rs
+loops-length-from start [] = refl
+loops-length-from start (r ∷ rs) = ap suc (loops-length-from (start + length (r .corners)) rs)
+
+loops-length : (s : Sheet) → length (loopsOf s) ≡ length (s .rings)
+loops-length s = loops-length-from 0 (s .rings)
+
+module _ {X Y : Type 0} (o : Result X Refusal) (f : X → Y) where
+  -- what an answer tells of what it was made from
+  pub made-from-err : (e : Refusal) → Err e ≡ andThen o (λ x. Ok (f x)) → o ≡ Err e
+  made-from-err e = elim o as (λ o. Err e ≡ andThen o (λ x. Ok (f x)) → o ≡ Err e) [ Ok x ↦ λ h. cc | Err e′ ↦ λ h. cc ]
+
+  pub made-from-ok : (y : Y) → Ok y ≡ andThen o (λ x. Ok (f x)) → (x : X) × (o ≡ Ok x)
+  made-from-ok y = elim o as (λ o. Ok y ≡ andThen o (λ x. Ok (f x)) → (x : X) × (o ≡ Ok x)) [ Ok x ↦ λ h. (x, refl) | Err e′ ↦ λ h. let z : _≡_ {A = ℕ} 0 1 = cc in absurd (omega arith) ]
+
+module _ (points edges loops : ℕ) (file : List ℕ) where
+  pub taken-short : roomy points edges loops ≡ false → taken points edges loops file ≡ Err (fault TableTooShort 0)
+  unfolding taken
+  taken-short h = rw h refl
+
+  module _ (room : roomy points edges loops ≡ true) where
+    pub taken-stops : (e : Refusal) → sheet file 0 ≡ Err e → taken points edges loops file ≡ Err e
+    unfolding taken contents
+    taken-stops e h = rw (room, h) refl
+
+    pub taken-ends : (s : Sheet) (at : ℕ) (file₁ : List ℕ) (e : Refusal) → sheet file 0 ≡ Ok (s, at) → file₁ ≡ file → labels file₁ at ≡ Err e → taken points edges loops file ≡ Err e
+    unfolding taken contents
+    taken-ends s at file₁ e h f l = rw (room, h, ← f, l) refl
+
+    pub taken-whole : (s : Sheet) (at : ℕ) (file₁ : List ℕ) (ls : List Label) → sheet file 0 ≡ Ok (s, at) → file₁ ≡ file → labels file₁ at ≡ Ok ls → taken points edges loops file ≡ Ok s
+    unfolding taken contents
+    taken-whole s at file₁ ls h f l = rw (room, h, ← f, l) refl
+
+-- the tables have room for a sheet of a size within its limits
+module _ (points edges loops : ℕ) (room : roomy points edges loops ≡ true) (s : Sheet) (y : Size) (is : y ≡ sizeOf s) where
+  least : (1028 ≤ points) × (6154 ≤ edges) × (2050 ≤ loops)
+  least = grind (arith, tells)
+
+  pub room-for-points : y .inner ≤ 1024 → length (pointsOf s) ≤ points
+  room-for-points h = let e = ap (λ (z : Size). z .inner) is in let l = least .0 in omega arith
+
+  pub room-for-edges : y .corners ≤ 6150 → length (edgesOf s) ≤ edges
+  room-for-edges h = let e = ap (λ (z : Size). z .corners) is in let l = least .1 in let n = edges-length s in omega arith
+
+  pub room-for-loops : y .loops ≤ 2050 → length (loopsOf s) ≤ loops
+  room-for-loops h = let e = ap (λ (z : Size). z .loops) is in let l = least .2 in let n = loops-length s in omega arith

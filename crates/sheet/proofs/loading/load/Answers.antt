@@ -1,0 +1,56 @@
+use mathlib.Core.Path.{_≡_, refl, sym, ap, _∙_}
+use Prim.Native.Nat.{_+_, _≤_}
+use native.Mathlib.Omega.{arith}
+use lib.ListN.{length}
+use Rattle.std.specs.declared.result.Result.the-variants.{Ok}
+use Rattle.std.proofs.shelf.Results.{err-from-errBy}
+use Rattle.sheet.specs.declared.tables.Size.{Size}
+use Rattle.sheet.specs.Files.{labels, sheet}
+use Rattle.sheet.specs.Sheets.{edgesOf, loopsOf, pointsOf}
+use Rattle.sheet.proofs.Loads.{made-from-err, made-from-ok, room-for-points, room-for-edges, room-for-loops, taken-short, taken-stops, taken-ends, taken-whole}
+use Rattle.sheet.proofs.loading.load.Needs as need
+
+pub returns-then-not-have-room : need.returns-then-not-have-room
+returns-then-not-have-room c =
+    let t = taken-short (length (c .args .points .now)) (length (c .args .edges .now)) (length (c .args .loops .now)) (c .args .file .now) (sym (c .if-not-have-room .ensures tt)) in
+    rw (t, c .fault .ensures) record { said = refl; points = refl; edges = refl; loops = refl }
+
+pub returns-in-Break-size : need.returns-in-Break-size
+returns-in-Break-size c =
+    let p = err-from-errBy (c .from-residual .result) (c .from-residual .ensures .1) in
+    let n = c .new-reader .ensures in
+    let s = c .in-Break-size .ensures tt .value in
+    let t = taken-stops (length (c .args .points .now)) (length (c .args .edges .now)) (length (c .args .loops .now)) (c .args .file .now) (sym (c .if-not-have-room .ensures tt)) _ (rw (n .file, n .at) at s) in
+    rw (p .1, p .2, t) record { said = refl; points = refl; edges = refl; loops = refl }
+
+pub returns-in-Break-read-labels : need.returns-in-Break-read-labels
+returns-in-Break-read-labels c =
+    let p = err-from-errBy (c .from-residual-in-Break-read-labels .result) (c .from-residual-in-Break-read-labels .ensures .1) in
+    let n = c .new-reader .ensures in
+    let s = c .in-Continue-size .ensures tt in
+    let ls = made-from-err _ _ _ (c .in-Break-read-labels .ensures tt) in
+    let f = s .file ∙ n .file in
+    let t = taken-ends (length (c .args .points .now)) (length (c .args .edges .now)) (length (c .args .loops .now)) (c .args .file .now) (sym (c .if-not-have-room .ensures tt)) _ _ _ _ (rw (n .file, n .at) at (s .value .1)) f ls in
+    rw (p .1, p .2, t) record { said = refl; points = refl; edges = refl; loops = refl }
+
+pub returns : need.returns
+returns c =
+    let points = length (c .args .points .now) in
+    let edges = length (c .args .edges .now) in
+    let loops = length (c .args .loops .now) in
+    let n = c .new-reader .ensures in
+    let room = sym (c .if-not-have-room .ensures tt) in
+    let v = c .in-Continue-size .ensures tt in
+    let s = v .value .0 in
+    let size = v .value .2 in
+    let read : sheet (c .args .file .now) 0 ≡ Ok (s, _) = rw (n .file, n .at) at (v .value .1) in
+    let f = v .file ∙ n .file in
+    let ls = made-from-ok _ _ _ (c .in-Continue-read-labels .ensures tt) in
+    let t = taken-whole points edges loops (c .args .file .now) room s _ _ (ls .0) read f (ls .1) in
+    rw t
+    record {
+      said = ap Ok size;
+      points = c .keep .ensures .points s _ read (room-for-points points edges loops room s _ size (v .within .0));
+      edges = c .keep .ensures .edges s _ read (room-for-edges points edges loops room s _ size (v .within .2));
+      loops = c .keep .ensures .loops s _ read (room-for-loops points edges loops room s _ size (v .within .1));
+    }
