@@ -6,9 +6,9 @@ use Prim.Native.Nat.{ℕ, suc, _+_, _-_, _<_, _≤_}
 use native.Mathlib.Omega.{arith}
 use lib.Dec.{ltb}
 use lib.ListN.{length, getD, set, take, drop}
-use Rattle.std.proofs.shelf.Lists.{set-split, length-set, take-more, take-more-set, drop-set-lt, take-append-drop}
+use Rattle.std.proofs.shelf.Lists.{set-split, length-set, take-more, take-more-set, drop-set-lt, take-append-drop, take-at}
 use Rattle.std.proofs.shelf.Tests.{lt-ltb, cond-true}
-use Rattle.lent.specs.Kept.{Kept, kept, put, puts, over}
+use Rattle.lent.specs.Kept.{Kept, elements, kept, put, puts, over}
 
 pub puts-push : {X : Type 0} (k : Kept X) (xs : List X) (x : X) → puts k (xs ++ x ∷ []) ≡ put (puts k xs) x
 puts-push k [] x = refl
@@ -62,3 +62,7 @@ puts-more k₀ k k′ more i x h r e e′ =
 -- what the slice holds then
 pub over-from-puts : {X : Type 0} (k k₁ : Kept X) (items xs : List X) → k ≡ puts k₁ xs → k₁ ≡ kept items 0 → length xs ≤ length items → k .items ≡ over xs items
 over-from-puts k k₁ items xs e f h = ap (λ (j : Kept _). j .items) (e ∙ ap (λ j. puts j xs) f ∙ puts-over items xs h)
+
+-- and the elements of the list
+pub elements-from-puts : {X : Type 0} (k k₁ : Kept X) (items xs : List X) → k ≡ puts k₁ xs → k₁ ≡ kept items 0 → length xs ≤ length items → elements k ≡ xs
+elements-from-puts k k₁ items xs e f h = ap elements (e ∙ ap (λ j. puts j xs) f ∙ puts-over items xs h) ∙ take-at xs (drop (length xs) items) (length xs) refl

@@ -1,4 +1,4 @@
-pub mod Wordings
+pub mod Letters
 pub mod Several
 pub mod Links
 pub mod Told
@@ -8,3 +8,5 @@ pub mod Heads
 pub mod Wholes
 pub mod Labelling
 pub mod Loads
+pub mod Numerals
+pub mod Spoken

@@ -15,7 +15,7 @@ use Rattle.refusal.specs.declared.Refusal.{Refusal}
 use Rattle.sheet.specs.declared.tables.Edge.{Edge}
 use Rattle.sheet.specs.declared.tables.Label.{Label}
 use Rattle.sheet.specs.declared.tables.Size.{Size}
-use Rattle.sheet.specs.Files.{contents, labels, sheet}
+use Rattle.sheet.specs.Files.{SheetFile, contents, labels, sheet}
 use Rattle.sheet.specs.Load.{roomy, taken}
 use Rattle.sheet.specs.Reading.{andThen, fault}
 use Rattle.sheet.specs.Sheets.{Ring, Sheet, cornersIn, edgesOf, links, loopsFrom, loopsOf, outside, pointsOf, ringEdges, sizeOf}
@@ -54,26 +54,38 @@ module _ {X Y : Type 0} (o : Result X Refusal) (f : X → Y) where
   pub made-from-err : (e : Refusal) → Err e ≡ andThen o (λ x. Ok (f x)) → o ≡ Err e
   made-from-err e = elim o as (λ o. Err e ≡ andThen o (λ x. Ok (f x)) → o ≡ Err e) [ Ok x ↦ λ h. cc | Err e′ ↦ λ h. cc ]
 
-  pub made-from-ok : (y : Y) → Ok y ≡ andThen o (λ x. Ok (f x)) → (x : X) × (o ≡ Ok x)
-  made-from-ok y = elim o as (λ o. Ok y ≡ andThen o (λ x. Ok (f x)) → (x : X) × (o ≡ Ok x)) [ Ok x ↦ λ h. (x, refl) | Err e′ ↦ λ h. let z : _≡_ {A = ℕ} 0 1 = cc in absurd (omega arith) ]
+  pub made-from-ok : (y : Y) → Ok y ≡ andThen o (λ x. Ok (f x)) → (x : X) × (o ≡ Ok x) × (y ≡ f x)
+  made-from-ok y =
+      elim o as (λ o. Ok y ≡ andThen o (λ x. Ok (f x)) → (x : X) × (o ≡ Ok x) × (y ≡ f x))
+      [ Ok x ↦ λ h. (x, refl, cc) | Err e′ ↦ λ h. let z : _≡_ {A = ℕ} 0 1 = cc in absurd (omega arith) ]
+
+module _ {Y : Type 0} (file : List ℕ) (go : SheetFile → Result Y Refusal) where
+  -- a whole file, step by step
+  pub contents-stops : (e : Refusal) → sheet file 0 ≡ Err e → andThen (contents file) go ≡ Err e
+  unfolding contents
+  contents-stops e h = rw h refl
+
+  module _ (s : Sheet) (at : ℕ) (file₁ : List ℕ) (h : sheet file 0 ≡ Ok (s, at)) (f : file₁ ≡ file) where
+    pub contents-ends : (e : Refusal) → labels file₁ at ≡ Err e → andThen (contents file) go ≡ Err e
+    unfolding contents
+    contents-ends e l = rw (h, ← f, l) refl
+
+    pub contents-whole : (ls : List Label) → labels file₁ at ≡ Ok ls → andThen (contents file) go ≡ go (record { sheet = s; labels = ls })
+    unfolding contents
+    contents-whole ls l = rw (h, ← f, l) refl
 
 module _ (points edges loops : ℕ) (file : List ℕ) where
   pub taken-short : roomy points edges loops ≡ false → taken points edges loops file ≡ Err (fault TableTooShort 0)
   unfolding taken
   taken-short h = rw h refl
 
-  module _ (room : roomy points edges loops ≡ true) where
-    pub taken-stops : (e : Refusal) → sheet file 0 ≡ Err e → taken points edges loops file ≡ Err e
-    unfolding taken contents
-    taken-stops e h = rw (room, h) refl
+  pub taken-roomy : roomy points edges loops ≡ true → taken points edges loops file ≡ andThen (contents file) (λ f. Ok (f .sheet))
+  unfolding taken
+  taken-roomy h = rw h refl
 
-    pub taken-ends : (s : Sheet) (at : ℕ) (file₁ : List ℕ) (e : Refusal) → sheet file 0 ≡ Ok (s, at) → file₁ ≡ file → labels file₁ at ≡ Err e → taken points edges loops file ≡ Err e
-    unfolding taken contents
-    taken-ends s at file₁ e h f l = rw (room, h, ← f, l) refl
-
-    pub taken-whole : (s : Sheet) (at : ℕ) (file₁ : List ℕ) (ls : List Label) → sheet file 0 ≡ Ok (s, at) → file₁ ≡ file → labels file₁ at ≡ Ok ls → taken points edges loops file ≡ Ok s
-    unfolding taken contents
-    taken-whole s at file₁ ls h f l = rw (room, h, ← f, l) refl
+-- the loops of a sheet are few
+pub few-loops : (s : Sheet) (y : Size) → y ≡ sizeOf s → y .loops ≤ 2050 → length (loopsOf s) ≤ 2050
+few-loops s y is h = let e = ap (λ (z : Size). z .loops) is in let n = loops-length s in omega arith
 
 -- the tables have room for a sheet of a size within its limits
 module _ (points edges loops : ℕ) (room : roomy points edges loops ≡ true) (s : Sheet) (y : Size) (is : y ≡ sizeOf s) where
@@ -87,4 +99,4 @@ module _ (points edges loops : ℕ) (room : roomy points edges loops ≡ true) (
   room-for-edges h = let e = ap (λ (z : Size). z .corners) is in let l = least .1 in let n = edges-length s in omega arith
 
   pub room-for-loops : y .loops ≤ 2050 → length (loopsOf s) ≤ loops
-  room-for-loops h = let e = ap (λ (z : Size). z .loops) is in let l = least .2 in let n = loops-length s in omega arith
+  room-for-loops h = let n = few-loops s y is h in let l = least .2 in omega arith

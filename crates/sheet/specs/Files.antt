@@ -2,9 +2,9 @@
 use mathlib.Core.Bool.{Bool, true, false, cond}
 use mathlib.Core.List.{List, [], _∷_}
 use mathlib.Core.Path.{_≡_}
-use Prim.Native.Nat.{ℕ, _+_, _<_}
+use Prim.Native.Nat.{ℕ, _+_, _<_, _≤_}
 use lib.Dec.{eqb}
-use lib.ListN.{getD}
+use lib.ListN.{getD, length}
 use Rattle.std.specs.declared.option.Option.{Option}
 use Rattle.std.specs.declared.option.Option.the-variants.{None, Some}
 use Rattle.std.specs.declared.result.Result.{Result}
@@ -83,3 +83,8 @@ contents file =
 -- flags that mark the numerals of labels
 abbrev pub Marked : List Bool → List Label → Type 0
 Marked flags ls = (m : ℕ) → m < 256 → getD flags m false ≡ labelled m ls
+
+-- a wording lies in the file
+abbrev pub Within : List ℕ → Option Label → Type 0
+Within file None = Unit {0}
+Within file (Some l) = l .place + l .length ≤ length file

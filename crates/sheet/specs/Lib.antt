@@ -4,3 +4,4 @@ pub mod Kinds
 pub mod Sheets
 pub mod Files
 pub mod Load
+pub mod Wordings

@@ -208,6 +208,7 @@ impl<'a> Reader<'a> {
     /// The bytes of a wording, as a part of the file itself.
     pub fn wording(&mut self, length: u16) -> Result<&'a [u8], Refusal>
         ensures value { λ r. ⌜ ended r (now (self .exit) .at) ≡ wordingOf (now (now (self .entry) .file)) length (now (self .entry) .at) ⌝ }
+        ensures within { λ r. ⌜ made r (λ _. now (self .entry) .at + length ≤ listLength (now (now (self .entry) .file))) ⌝ }
         ensures text { λ r. ⌜ made r (λ w. now w ≡ part (now (now (self .entry) .file)) (now (self .entry) .at) length) ⌝ }
         ensures file { λ _. ⌜ now (now (self .exit) .file) ≡ now (now (self .entry) .file) ⌝ }
         ensures stays { λ r. ⌜ Stays r (now (self .entry) .at) (now (self .exit) .at) ⌝ }

@@ -8,7 +8,7 @@ pub returns-in-Break-numeral : need.returns-in-Break-numeral
 returns-in-Break-numeral c =
     let p = err-from-errBy (c .from-residual .result) (c .from-residual .ensures .1) in
     let m = c .in-Break-numeral .ensures tt in
-    rw (p .1, p .2) record { value = λ before marked. sym (stops-numeral _ before _ _ (m .value)); seen = tt; file = m .file }
+    rw (p .1, p .2) record { value = λ before marked. sym (stops-numeral _ before _ _ (m .value)); seen = tt; within = tt; file = m .file }
 
 pub returns-then-seen-numeral : need.returns-then-seen-numeral
 returns-then-seen-numeral c =
@@ -18,6 +18,7 @@ returns-then-seen-numeral c =
           rw (c .fault .ensures, c .place-at .ensures)
           (sym (stops-twice _ before _ _ _ _ (m .value) (m .file) (sym (marked (c .in-Continue-numeral .numeral) (omega arith)) ∙ c .if-seen-numeral .taken)));
       seen = tt;
+      within = tt;
       file = m .file;
     }
 
@@ -31,6 +32,7 @@ returns-in-Break-length c =
       value = λ before marked.
           sym (stops-length _ before _ _ _ _ (m .value) (m .file) _ (sym (marked (c .in-Continue-numeral .numeral) (omega arith)) ∙ c .if-seen-numeral .left) (n .value));
       seen = tt;
+      within = tt;
       file = n .file ∙ m .file;
     }
 
@@ -47,6 +49,7 @@ returns-in-Break--text c =
           (stops-wording _ before _ _ _ _ (m .value) (m .file) _ _ _ (n .value) (n .file) _
           (sym (marked (c .in-Continue-numeral .numeral) (omega arith)) ∙ c .if-seen-numeral .left) (t .value));
       seen = tt;
+      within = tt;
       file = t .file ∙ n .file ∙ m .file;
     }
 
@@ -62,5 +65,6 @@ returns c =
           (goes _ before _ _ _ _ (m .value) (m .file) _ _ _ (n .value) (n .file) _
           (sym (marked (c .in-Continue-numeral .numeral) (omega arith)) ∙ c .if-seen-numeral .left) (t .value)));
       seen = (omega arith, c .if-seen-numeral .left, refl);
+      within = rw (c .place-place .ensures, ← (n .file ∙ m .file)) (t .within);
       file = t .file ∙ n .file ∙ m .file;
     }

@@ -1,7 +1,7 @@
 use mathlib.Core.Path.{_≡_, refl, sym, _∙_}
 use native.Mathlib.Omega.{arith}
 use Rattle.std.proofs.shelf.Ways.{tells}
-use Rattle.sheet.proofs.Wordings.{wording-step, wording-end, wording-start}
+use Rattle.sheet.proofs.Letters.{wording-step, wording-end, wording-start}
 use Rattle.sheet.proofs.reader.wording_end.Needs as need
 
 pub loop-i-holds : need.loop-i-holds
