@@ -1,7 +1,7 @@
 //! What a tip is answered with.
 
 /// The one cell that holds a tip.
-#[derive(Clone, Copy, PartialEq, Eq, Debug)]
+#[derive(Clone, Copy)]
 pub enum Answer {
     /// A vertex.
     Vertex(u16),

@@ -34,7 +34,7 @@ pub struct Head {
 }
 
 /// A label: its numeral, and where its wording stands in the file.
-#[derive(Clone, Copy, PartialEq, Eq, Debug)]
+#[derive(Clone, Copy)]
 pub struct Label {
     pub numeral: u16,
     pub place: usize,
