@@ -3,7 +3,7 @@ ghost use mathlib.Core.List.{[]};
 ghost use mathlib.Core.Path.{_≡_};
 ghost use Rattle.std.specs.declared.result.Result.the-variants.{Ok as Good};
 ghost use Rattle.sheet.specs.Load.{upon};
-ghost use Rattle.sheet.specs.Reading.{andThen};
+ghost use Rattle.reader.specs.Reading.{andThen};
 ghost use Rattle.sheet.specs.Sheets.{edgesOf, loopsOf, pointsOf};
 ghost use Rattle.board.specs.Turns.{bare, loadBoard, loadRoom, loads};
 use crate::stage::Board;

@@ -125,7 +125,7 @@ impl Cause {
             Cause::EdgesTouch => "two edges touch or cross; put a vertex where they meet",
             Cause::LoopTurned =>
                 "a loop goes round clockwise, or encloses nothing; list its corners counterclockwise",
-            Cause::Stuck => "no further step is possible here",
+            Cause::Stuck => "the loop cannot be cut, or the sheet layered, any further; redraw it",
             Cause::StoreFull => "the store is too small; lend one with room for so many nodes",
             Cause::VerticesLeft => "inner vertices are left; run more rounds before sealing",
             Cause::NoneLeft => "no inner vertex is left; seal the sheet",

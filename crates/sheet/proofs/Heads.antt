@@ -5,7 +5,7 @@ use Prim.Native.Nat.{ℕ}
 use Rattle.std.specs.declared.result.Result.the-variants.{Ok, Err}
 use Rattle.refusal.specs.declared.Refusal.{Refusal}
 use Rattle.sheet.specs.Files.{head}
-use Rattle.sheet.specs.Kinds as kind
+use Rattle.reader.specs.Kinds as kind
 
 module _ (file : List ℕ) (at : ℕ) where
   pub stops-edition : (e : Refusal) → Err e ≡ kind.edition file at → head file at ≡ Err e

@@ -18,8 +18,8 @@ use Rattle.refusal.specs.declared.Cause.the-variants.{BadNumeral}
 use Rattle.refusal.specs.declared.Refusal.{Refusal}
 use Rattle.sheet.specs.declared.tables.Label.{Label}
 use Rattle.sheet.specs.Files.{find, label, labelled, labels, Marked}
-use Rattle.sheet.specs.Kinds as kind
-use Rattle.sheet.specs.Reading.{andThen, several, fault}
+use Rattle.reader.specs.Kinds as kind
+use Rattle.reader.specs.Reading.{andThen, several, fault}
 
 module _ (file : List ℕ) (before : List Label) (at : ℕ) where
   pub stops-numeral : (e : Refusal) → Err e ≡ kind.labelNumeral file at → label file before at ≡ Err e

@@ -1,4 +1,3 @@
-pub mod Letters
 pub mod Several
 pub mod Links
 pub mod Told

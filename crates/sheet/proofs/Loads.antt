@@ -17,7 +17,7 @@ use Rattle.sheet.specs.declared.tables.Label.{Label}
 use Rattle.sheet.specs.declared.tables.Size.{Size}
 use Rattle.sheet.specs.Files.{SheetFile, contents, labels, sheet}
 use Rattle.sheet.specs.Load.{roomy, taken}
-use Rattle.sheet.specs.Reading.{andThen, fault}
+use Rattle.reader.specs.Reading.{andThen, fault}
 use Rattle.sheet.specs.Sheets.{Ring, Sheet, cornersIn, edgesOf, links, loopsFrom, loopsOf, outside, pointsOf, ringEdges, sizeOf}
 
 links-length : (v : ℕ) (vs : List ℕ) → length (links (v ∷ vs)) ≡ length vs

@@ -5,8 +5,8 @@ use Prim.Native.Nat.{ℕ}
 use Rattle.std.specs.declared.result.Result.the-variants.{Ok, Err}
 use Rattle.refusal.specs.declared.Refusal.{Refusal}
 use Rattle.sheet.specs.Files.{ring}
-use Rattle.sheet.specs.Kinds as kind
-use Rattle.sheet.specs.Reading.{several}
+use Rattle.reader.specs.Kinds as kind
+use Rattle.reader.specs.Reading.{several}
 
 module _ (vertices before : ℕ) (file : List ℕ) (at : ℕ) where
   pub stops-numeral : (e : Refusal) → Err e ≡ kind.numeral file at → ring vertices before file at ≡ Err e

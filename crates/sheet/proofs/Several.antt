@@ -7,7 +7,7 @@ use lib.ListN.{length}
 use Rattle.std.specs.declared.result.Result.the-variants.{Ok, Err}
 use Rattle.std.proofs.shelf.Lists.{length-push}
 use Rattle.refusal.specs.declared.Refusal.{Refusal}
-use Rattle.sheet.specs.Reading.{Read, andThen, several}
+use Rattle.reader.specs.Reading.{Read, andThen, several}
 
 module _ {X : Type 0} (read : List ℕ → List X → ℕ → Read X) where
   -- one step of several

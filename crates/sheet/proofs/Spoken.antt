@@ -10,7 +10,7 @@ use Rattle.refusal.specs.declared.Refusal.{Refusal}
 use Rattle.sheet.specs.declared.answer.Answer.{Answer}
 use Rattle.sheet.specs.declared.tables.Label.{Label}
 use Rattle.sheet.specs.Files.{SheetFile, contents}
-use Rattle.sheet.specs.Reading.{andThen}
+use Rattle.reader.specs.Reading.{andThen}
 use Rattle.sheet.specs.Wordings.{labelOf, numeralOf, spoken, wordingSaid}
 
 twice : {X Y Z : Type 0} (o : Result X Refusal) (f : X → Y) (g : Y → Z) → andThen o (λ x. Ok (g (f x))) ≡ andThen (andThen o (λ x. Ok (f x))) (λ y. Ok (g y))

@@ -6,7 +6,7 @@ use Prim.Native.Nat.{ℕ}
 use Rattle.std.specs.declared.result.Result.{Result}
 use Rattle.std.specs.declared.result.Result.the-variants.{Ok, Err}
 use Rattle.refusal.specs.declared.Refusal.{Refusal}
-use Rattle.sheet.specs.Reading.{Read, andThen, Reads}
+use Rattle.reader.specs.Reading.{Read, andThen, Reads}
 
 -- the same was to be read, and the answer has more to do with it
 pub reads-by : {X Y : Type 0} (r : Result Y Refusal) (want want′ : Read X) (at : ℕ) (P P′ : X → Y → Type 0)

@@ -8,8 +8,8 @@ use Rattle.plane.specs.declared.Point.{Point}
 use Rattle.refusal.specs.declared.Refusal.{Refusal}
 use Rattle.sheet.specs.declared.tables.Head.{Head}
 use Rattle.sheet.specs.Files.{head, ring, sheet}
-use Rattle.sheet.specs.Kinds as kind
-use Rattle.sheet.specs.Reading.{several}
+use Rattle.reader.specs.Kinds as kind
+use Rattle.reader.specs.Reading.{several}
 use Rattle.sheet.specs.Sheets.{Ring, cornersIn, sizeOf, sizes}
 
 module _ (file : List ℕ) (at : ℕ) where

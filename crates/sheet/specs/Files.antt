@@ -14,8 +14,8 @@ use Rattle.refusal.specs.declared.Cause.the-variants.{BadNumeral}
 use Rattle.refusal.specs.declared.Refusal.{Refusal}
 use Rattle.sheet.specs.declared.tables.Head.{Head}
 use Rattle.sheet.specs.declared.tables.Label.{Label}
-use Rattle.sheet.specs.Kinds as kind
-use Rattle.sheet.specs.Reading.{Read, andThen, fault, several}
+use Rattle.reader.specs.Kinds as kind
+use Rattle.reader.specs.Reading.{Read, andThen, fault, several}
 use Rattle.sheet.specs.Sheets.{Ring, Sheet, cornersIn}
 
 -- a loop on a sheet of so many vertices, behind so many corners of earlier loops

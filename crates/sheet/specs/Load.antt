@@ -9,7 +9,7 @@ use Rattle.refusal.specs.declared.Cause.the-variants.{TableTooShort}
 use Rattle.refusal.specs.declared.Refusal.{Refusal}
 use Rattle.lent.specs.Kept.{over}
 use Rattle.sheet.specs.Files.{contents}
-use Rattle.sheet.specs.Reading.{andThen, fault}
+use Rattle.reader.specs.Reading.{andThen, fault}
 use Rattle.sheet.specs.Sheets.{Sheet}
 
 -- tables of at least 1,028 points, 6,154 edges and 2,050 loops

@@ -13,8 +13,8 @@ use Rattle.sheet.specs.declared.answer.Answer.{Answer}
 use Rattle.sheet.specs.declared.answer.Answer.the-variants.{Vertex, OpenEdge, Face}
 use Rattle.sheet.specs.declared.tables.Label.{Label}
 use Rattle.sheet.specs.Files.{SheetFile, contents, find}
-use Rattle.sheet.specs.Kinds.{part}
-use Rattle.sheet.specs.Reading.{andThen}
+use Rattle.reader.specs.Kinds.{part}
+use Rattle.reader.specs.Reading.{andThen}
 use Rattle.sheet.specs.Sheets.{Ring}
 
 -- the numeral of a loop by its number, and 0 past the last loop

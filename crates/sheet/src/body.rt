@@ -8,16 +8,16 @@ ghost use Rattle.lent.specs.Kept.{kept, puts};
 ghost use Rattle.std.specs.Joined.{joined};
 ghost use Rattle.std.specs.Vec.{made};
 ghost use Rattle.sheet.specs.Files.{head, ring, sheet};
-ghost use Rattle.sheet.specs.Kinds.{corner, vertex};
-ghost use Rattle.sheet.specs.Reading.{placed, several, Reads};
+ghost use Rattle.reader.specs.Kinds.{corner, vertex};
+ghost use Rattle.reader.specs.Reading.{placed, several, Reads};
 ghost use Rattle.sheet.specs.Sheets.{cornersIn, edgesOf, entry, loopsFrom, loopsOf, pointsOf, ringEdges, sizeOf};
-use crate::reader::Reader;
 use crate::tables::Edge;
 use crate::tables::Head;
 use crate::tables::Loop;
 use crate::tables::Size;
 use lent::LentList;
 use plane::Point;
+use reader::Reader;
 use refusal::Refusal;
 
 // The inner vertices, behind the points that the list has.

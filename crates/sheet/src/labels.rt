@@ -8,10 +8,10 @@ ghost use Rattle.std.specs.Vec.{made};
 ghost use Rattle.std.specs.declared.result.Result.the-variants.{Ok as Good};
 ghost use Rattle.sheet.specs.declared.tables.Label.{Label as LabelOf};
 ghost use Rattle.sheet.specs.Files.{find, label as labelOf, labels as labelsOf, Marked, Within};
-ghost use Rattle.sheet.specs.Reading.{andThen, placed};
-use crate::reader::Reader;
-use crate::reader::fault;
+ghost use Rattle.reader.specs.Reading.{andThen, placed};
 use crate::tables::Label;
+use reader::Reader;
+use reader::fault;
 use refusal::Cause;
 use refusal::Refusal;
 

@@ -1,16 +1,14 @@
-//! The sheet file: read, kept in the caller's tables, or refused at a byte; and the wordings of its labels.
+//! The sheet of a file: kept in the caller's tables, or refused at a byte; and the wordings of its labels.
 mod answer;
 mod body;
 mod labels;
 mod loading;
-mod reader;
 mod tables;
 mod wordings;
 
 pub use answer::Answer;
 pub use loading::have_room;
 pub use loading::load;
-pub use reader::Reader;
 pub use tables::Edge;
 pub use tables::Loop;
 pub use tables::Size;

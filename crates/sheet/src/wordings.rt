@@ -7,17 +7,17 @@ ghost use Rattle.std.specs.declared.result.Result.the-variants.{Ok as Good};
 ghost use Rattle.std.specs.Options.{mapped};
 ghost use Rattle.std.specs.Vec.{made};
 ghost use Rattle.sheet.specs.Files.{contents, sheet as sheetAt, Within};
-ghost use Rattle.sheet.specs.Reading.{andThen, Reads};
+ghost use Rattle.reader.specs.Reading.{andThen, Reads};
 ghost use Rattle.sheet.specs.Wordings.{labelOf, numeralOf, wordingSaid};
 use crate::answer::Answer;
 use crate::body::read_sheet;
 use crate::labels::read_labels;
-use crate::reader::Reader;
 use crate::tables::Edge;
 use crate::tables::Label;
 use crate::tables::Loop;
 use lent::LentList;
 use plane::Point;
+use reader::Reader;
 use refusal::Refusal;
 
 /// A part of a file, with its place.

@@ -2,7 +2,7 @@ use denote.Ref.{name}
 use mathlib.Core.List.{[], _∷_}
 use mathlib.Core.Path.{_≡_}
 use Rattle.lent.specs.Kept.{kept}
-use Rattle.sheet.specs.Kinds.{corner}
+use Rattle.reader.specs.Kinds.{corner}
 use Rattle.sheet.proofs.Links.{Linked}
 use Rattle.sheet.proofs.Several.{Sofar}
 use Rattle.sheet.proofs.body.link_corners.Given as given

@@ -1,7 +1,7 @@
 use mathlib.Core.Path.{_≡_, refl, _∙_}
 use native.Mathlib.Omega.{arith}
 use Rattle.std.proofs.shelf.Results.{err-from-errBy}
-use Rattle.sheet.specs.Kinds.{corner}
+use Rattle.reader.specs.Kinds.{corner}
 use Rattle.sheet.proofs.Told.{reads-by}
 use Rattle.sheet.proofs.Several.{several-first, several-none}
 use Rattle.sheet.proofs.body.read_corners.Needs as need

@@ -2,7 +2,7 @@ use denote.Ref.{name}
 use mathlib.Core.List.{[]}
 use mathlib.Core.Path.{_≡_}
 use Rattle.lent.specs.Kept.{kept, puts}
-use Rattle.sheet.specs.Kinds.{vertex}
+use Rattle.reader.specs.Kinds.{vertex}
 use Rattle.sheet.proofs.Several.{Sofar}
 use Rattle.sheet.proofs.body.read_vertices.Given as given
 

@@ -2,7 +2,7 @@
 use native.Mathlib.Omega.{arith}
 use Rattle.std.proofs.shelf.Lists.{places}
 use Rattle.std.proofs.shelf.Ways.{tells}
-use Rattle.sheet.proofs.reader.number_at.Needs as need
+use Rattle.reader.proofs.number_at.Needs as need
 
 pub returns-then-b-eq0 : need.returns-then-b-eq0
 returns-then-b-eq0 c = grind (arith, tells, places)

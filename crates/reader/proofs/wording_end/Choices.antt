@@ -1,8 +1,8 @@
 use mathlib.Core.Path.{_≡_}
 use Prim.Native.Nat.{_+_, _-_, _≤_}
 use lib.ListN.{length}
-use Rattle.sheet.specs.Kinds.{wording}
-use Rattle.sheet.proofs.reader.wording_end.Given as given
+use Rattle.reader.specs.Kinds.{wording}
+use Rattle.reader.proofs.wording_end.Given as given
 
 abbrev pub Inv-loop-i : given.InvT-loop-i
 Inv-loop-i l =

@@ -6,7 +6,7 @@ use Prim.Native.Nat.{ℕ, _+_, _-_, _*_}
 use lib.Dec.{eqb, ltb}
 use Rattle.std.specs.declared.result.Result.the-variants.{Ok, Err}
 use Rattle.refusal.specs.declared.Cause.the-variants.{BadNumber}
-use Rattle.sheet.specs.Reading.{Read, byte, fault}
+use Rattle.reader.specs.Reading.{Read, byte, fault}
 
 -- the last group of several
 abbrev pub last : ℕ → ℕ → ℕ → ℕ → Read ℕ

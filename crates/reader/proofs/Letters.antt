@@ -6,8 +6,8 @@ use Prim.Native.Nat.{ℕ, suc, _+_, _-_, _<_}
 use native.Mathlib.Omega.{arith}
 use Rattle.std.specs.declared.result.Result.the-variants.{Ok, Err}
 use Rattle.refusal.specs.declared.Cause.the-variants.{BadWording}
-use Rattle.sheet.specs.Reading.{byte, fault}
-use Rattle.sheet.specs.Kinds.{between, wording}
+use Rattle.reader.specs.Reading.{byte, fault}
+use Rattle.reader.specs.Kinds.{between, wording}
 
 pub wording-step : (file : List ℕ) (n i at : ℕ) → i < n
     → wording file (n - i) (at + i) ≡ byte file (at + i) (λ b. cond (between 32 126 b) (wording file (n - (i + 1)) (at + (i + 1))) (Err (fault BadWording (at + i))))

@@ -1,10 +1,11 @@
+//! A reader of sheet files: it walks over the bytes, with a method for each kind of number and for a wording.
 ghost use denote.Ref.{now as behind};
 ghost use lib.ListN.{length as listLength};
 ghost use mathlib.Core.Path.{_≡_};
 ghost use Prim.Native.Nat.{_+_, _<_, _≤_};
-ghost use Rattle.sheet.specs.Kinds.{ranged as rangedOf, edition as editionOf, extent as extentOf, count as countOf, vertex as vertexOf, numeral as numeralOf, cornerCount, corner as cornerOf, labelNumeral, wordingLength, wording as wordingOf, part, finish as finishOf};
-ghost use Rattle.sheet.specs.Reading.{ended, fault as faultOf, placed, Stays};
-ghost use Rattle.sheet.specs.Number.{number as numberOf};
+ghost use Rattle.reader.specs.Kinds.{ranged as rangedOf, edition as editionOf, extent as extentOf, count as countOf, vertex as vertexOf, numeral as numeralOf, cornerCount, corner as cornerOf, labelNumeral, wordingLength, wording as wordingOf, part, finish as finishOf};
+ghost use Rattle.reader.specs.Reading.{ended, fault as faultOf, placed, Stays};
+ghost use Rattle.reader.specs.Number.{number as numberOf};
 ghost use Rattle.std.specs.Vec.{made};
 use plane::Point;
 use refusal::Cause;
@@ -67,7 +68,8 @@ impl<'a> Reader<'a> {
     pub fn place(&self) -> usize
         ensures { λ r. ⌜ r ≡ now (self .entry) .at ⌝ }
     {
-        self.at
+        let Reader { at, .. } = self;
+        *at
     }
 
     /// A number of one to three groups.

@@ -1,8 +1,8 @@
 use mathlib.Core.Path.{_≡_, refl, sym, _∙_}
 use native.Mathlib.Omega.{arith}
 use Rattle.std.proofs.shelf.Ways.{tells}
-use Rattle.sheet.proofs.Letters.{wording-step, wording-end, wording-start}
-use Rattle.sheet.proofs.reader.wording_end.Needs as need
+use Rattle.reader.proofs.Letters.{wording-step, wording-end, wording-start}
+use Rattle.reader.proofs.wording_end.Needs as need
 
 pub loop-i-holds : need.loop-i-holds
 loop-i-holds c = (wording-start _ _ _, omega arith)

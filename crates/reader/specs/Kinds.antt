@@ -10,8 +10,8 @@ use Rattle.plane.specs.declared.Point.{Point}
 use Rattle.refusal.specs.declared.Cause.{Cause}
 use Rattle.refusal.specs.declared.Cause.the-variants.{BadEdition, BadSize, OverLimit, VertexOutside, BadCornerCount, NoSuchVertex, BadNumeral, BadWording, BytesLeft}
 use Rattle.refusal.specs.declared.Refusal.{Refusal}
-use Rattle.sheet.specs.Reading.{Read, andThen, byte, fault}
-use Rattle.sheet.specs.Number.{number}
+use Rattle.reader.specs.Reading.{Read, andThen, byte, fault}
+use Rattle.reader.specs.Number.{number}
 
 -- both ends belong to the range
 abbrev pub between : ℕ → ℕ → ℕ → Bool
