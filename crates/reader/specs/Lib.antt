@@ -1,3 +1,4 @@
 pub mod Reading
 pub mod Number
 pub mod Kinds
+pub mod Spelled

@@ -6,6 +6,7 @@ ghost use Prim.Native.Nat.{_+_, _<_, _≤_};
 ghost use Rattle.reader.specs.Kinds.{ranged as rangedOf, edition as editionOf, extent as extentOf, count as countOf, vertex as vertexOf, numeral as numeralOf, cornerCount, corner as cornerOf, labelNumeral, wordingLength, wording as wordingOf, part, finish as finishOf};
 ghost use Rattle.reader.specs.Reading.{ended, fault as faultOf, placed, Stays};
 ghost use Rattle.reader.specs.Number.{number as numberOf};
+ghost use Rattle.reader.specs.Spelled.{Spelled};
 ghost use Rattle.std.specs.Vec.{made};
 use plane::Point;
 use refusal::Cause;
@@ -248,4 +249,11 @@ fn wording_end(file: &[u8], at: usize, length: u16) -> Result<usize, Refusal>
         }
     }
     Ok(at + length as usize)
+}
+
+/// A number is read exactly where it stands in its one spelling.
+pub fn spelling_stands() -> u8
+    ensures { λ _. ⌜ Spelled ⌝ }
+{
+    0
 }
