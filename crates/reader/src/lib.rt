@@ -4,7 +4,7 @@ ghost use lib.ListN.{length as listLength};
 ghost use mathlib.Core.Path.{_≡_};
 ghost use Prim.Native.Nat.{_+_, _<_, _≤_};
 ghost use Rattle.reader.specs.Kinds.{ranged as rangedOf, edition as editionOf, extent as extentOf, count as countOf, vertex as vertexOf, numeral as numeralOf, cornerCount, corner as cornerOf, labelNumeral, wordingLength, wording as wordingOf, part, finish as finishOf};
-ghost use Rattle.reader.specs.Reading.{ended, fault as faultOf, placed, Stays};
+ghost use Rattle.reader.specs.Reading.{ended, fault as faultOf, placed, Stays, Walked};
 ghost use Rattle.reader.specs.Number.{number as numberOf};
 ghost use Rattle.reader.specs.Spelled.{Spelled};
 ghost use Rattle.std.specs.Vec.{made};
@@ -75,9 +75,7 @@ impl<'a> Reader<'a> {
 
     /// A number of one to three groups.
     pub fn number(&mut self) -> Result<u32, Refusal>
-        ensures value { λ r. ⌜ placed r (now (self .exit) .at) ≡ numberOf (now (now (self .entry) .file)) (now (self .entry) .at) ⌝ }
-        ensures file { λ _. ⌜ now (now (self .exit) .file) ≡ now (now (self .entry) .file) ⌝ }
-        ensures stays { λ r. ⌜ Stays r (now (self .entry) .at) (now (self .exit) .at) ⌝ }
+        ensures read { λ r. ⌜ Walked numberOf r (now (now (self .entry) .file)) (now (self .entry) .at) (now (now (self .exit) .file)) (now (self .exit) .at) ⌝ }
     {
         let (value, next) = number_at(self.file, self.at)?;
         self.at = next;
@@ -86,10 +84,8 @@ impl<'a> Reader<'a> {
 
     // a number in its range
     fn ranged(&mut self, low: u16, high: u16, cause: Cause) -> Result<u16, Refusal>
-        ensures value { λ r. ⌜ placed r (now (self .exit) .at) ≡ rangedOf low high cause (now (now (self .entry) .file)) (now (self .entry) .at) ⌝ }
+        ensures read { λ r. ⌜ Walked (rangedOf low high cause) r (now (now (self .entry) .file)) (now (self .entry) .at) (now (now (self .exit) .file)) (now (self .exit) .at) ⌝ }
         ensures within { λ r. ⌜ made r (λ v. (low ≤ v) × (v ≤ high)) ⌝ }
-        ensures file { λ _. ⌜ now (now (self .exit) .file) ≡ now (now (self .entry) .file) ⌝ }
-        ensures stays { λ r. ⌜ Stays r (now (self .entry) .at) (now (self .exit) .at) ⌝ }
     {
         let (value, next) = number_at(self.file, self.at)?;
         if value < u32::from(low) || value > u32::from(high) {
@@ -101,37 +97,29 @@ impl<'a> Reader<'a> {
 
     /// The file's edition.
     pub fn edition(&mut self) -> Result<u16, Refusal>
-        ensures value { λ r. ⌜ placed r (now (self .exit) .at) ≡ editionOf (now (now (self .entry) .file)) (now (self .entry) .at) ⌝ }
-        ensures file { λ _. ⌜ now (now (self .exit) .file) ≡ now (now (self .entry) .file) ⌝ }
-        ensures stays { λ r. ⌜ Stays r (now (self .entry) .at) (now (self .exit) .at) ⌝ }
+        ensures read { λ r. ⌜ Walked editionOf r (now (now (self .entry) .file)) (now (self .entry) .at) (now (now (self .exit) .file)) (now (self .exit) .at) ⌝ }
     {
         self.ranged(1, 1, Cause::BadEdition)
     }
 
     /// A width or a height.
     pub fn extent(&mut self) -> Result<u16, Refusal>
-        ensures value { λ r. ⌜ placed r (now (self .exit) .at) ≡ extentOf (now (now (self .entry) .file)) (now (self .entry) .at) ⌝ }
-        ensures file { λ _. ⌜ now (now (self .exit) .file) ≡ now (now (self .entry) .file) ⌝ }
-        ensures stays { λ r. ⌜ Stays r (now (self .entry) .at) (now (self .exit) .at) ⌝ }
+        ensures read { λ r. ⌜ Walked extentOf r (now (now (self .entry) .file)) (now (self .entry) .at) (now (now (self .exit) .file)) (now (self .exit) .at) ⌝ }
     {
         self.ranged(2, 8191, Cause::BadSize)
     }
 
     /// How many of a kind follow, up to a limit.
     pub fn count(&mut self, limit: u16) -> Result<u16, Refusal>
-        ensures value { λ r. ⌜ placed r (now (self .exit) .at) ≡ countOf limit (now (now (self .entry) .file)) (now (self .entry) .at) ⌝ }
+        ensures read { λ r. ⌜ Walked (countOf limit) r (now (now (self .entry) .file)) (now (self .entry) .at) (now (now (self .exit) .file)) (now (self .exit) .at) ⌝ }
         ensures within { λ r. ⌜ made r (λ n. n ≤ limit) ⌝ }
-        ensures file { λ _. ⌜ now (now (self .exit) .file) ≡ now (now (self .entry) .file) ⌝ }
-        ensures stays { λ r. ⌜ Stays r (now (self .entry) .at) (now (self .exit) .at) ⌝ }
     {
         self.ranged(0, limit, Cause::OverLimit)
     }
 
     /// An inner vertex, strictly inside a sheet of the given size.
     pub fn vertex(&mut self, width: u16, height: u16) -> Result<Point, Refusal>
-        ensures value { λ r. ⌜ placed r (now (self .exit) .at) ≡ vertexOf width height (now (now (self .entry) .file)) (now (self .entry) .at) ⌝ }
-        ensures file { λ _. ⌜ now (now (self .exit) .file) ≡ now (now (self .entry) .file) ⌝ }
-        ensures stays { λ r. ⌜ Stays r (now (self .entry) .at) (now (self .exit) .at) ⌝ }
+        ensures read { λ r. ⌜ Walked (vertexOf width height) r (now (now (self .entry) .file)) (now (self .entry) .at) (now (now (self .exit) .file)) (now (self .exit) .at) ⌝ }
     {
         let (x, behind_x) = number_at(self.file, self.at)?;
         if x == 0 || x >= u32::from(width) {
@@ -150,19 +138,15 @@ impl<'a> Reader<'a> {
 
     /// The numeral of a loop.
     pub fn numeral(&mut self) -> Result<u16, Refusal>
-        ensures value { λ r. ⌜ placed r (now (self .exit) .at) ≡ numeralOf (now (now (self .entry) .file)) (now (self .entry) .at) ⌝ }
-        ensures file { λ _. ⌜ now (now (self .exit) .file) ≡ now (now (self .entry) .file) ⌝ }
-        ensures stays { λ r. ⌜ Stays r (now (self .entry) .at) (now (self .exit) .at) ⌝ }
+        ensures read { λ r. ⌜ Walked numeralOf r (now (now (self .entry) .file)) (now (self .entry) .at) (now (now (self .exit) .file)) (now (self .exit) .at) ⌝ }
     {
         self.ranged(0, 255, Cause::BadNumeral)
     }
 
     /// How many corners a loop has, on a sheet of so many vertices, where earlier loops have `before` corners in all.
     pub fn corner_count(&mut self, vertices: u16, before: u16) -> Result<u16, Refusal>
-        ensures value { λ r. ⌜ placed r (now (self .exit) .at) ≡ cornerCount vertices before (now (now (self .entry) .file)) (now (self .entry) .at) ⌝ }
+        ensures read { λ r. ⌜ Walked (cornerCount vertices before) r (now (now (self .entry) .file)) (now (self .entry) .at) (now (now (self .exit) .file)) (now (self .exit) .at) ⌝ }
         ensures within { λ r. ⌜ made r (λ k. (3 ≤ k) × (before + k ≤ 6150)) ⌝ }
-        ensures file { λ _. ⌜ now (now (self .exit) .file) ≡ now (now (self .entry) .file) ⌝ }
-        ensures stays { λ r. ⌜ Stays r (now (self .entry) .at) (now (self .exit) .at) ⌝ }
     {
         let (k, next) = number_at(self.file, self.at)?;
         if u32::from(before) + k > 6150 {
@@ -177,9 +161,7 @@ impl<'a> Reader<'a> {
 
     /// A corner of a loop: the number of a vertex, of which there are so many.
     pub fn corner(&mut self, vertices: u16) -> Result<u16, Refusal>
-        ensures value { λ r. ⌜ placed r (now (self .exit) .at) ≡ cornerOf vertices (now (now (self .entry) .file)) (now (self .entry) .at) ⌝ }
-        ensures file { λ _. ⌜ now (now (self .exit) .file) ≡ now (now (self .entry) .file) ⌝ }
-        ensures stays { λ r. ⌜ Stays r (now (self .entry) .at) (now (self .exit) .at) ⌝ }
+        ensures read { λ r. ⌜ Walked (cornerOf vertices) r (now (now (self .entry) .file)) (now (self .entry) .at) (now (now (self .exit) .file)) (now (self .exit) .at) ⌝ }
     {
         let (v, next) = number_at(self.file, self.at)?;
         if v >= u32::from(vertices) {
@@ -191,19 +173,15 @@ impl<'a> Reader<'a> {
 
     /// The numeral of a label.
     pub fn label_numeral(&mut self) -> Result<u16, Refusal>
-        ensures value { λ r. ⌜ placed r (now (self .exit) .at) ≡ labelNumeral (now (now (self .entry) .file)) (now (self .entry) .at) ⌝ }
+        ensures read { λ r. ⌜ Walked labelNumeral r (now (now (self .entry) .file)) (now (self .entry) .at) (now (now (self .exit) .file)) (now (self .exit) .at) ⌝ }
         ensures within { λ r. ⌜ made r (λ m. m ≤ 255) ⌝ }
-        ensures file { λ _. ⌜ now (now (self .exit) .file) ≡ now (now (self .entry) .file) ⌝ }
-        ensures stays { λ r. ⌜ Stays r (now (self .entry) .at) (now (self .exit) .at) ⌝ }
     {
         self.ranged(1, 255, Cause::BadNumeral)
     }
 
     /// How many bytes a wording has.
     pub fn wording_length(&mut self) -> Result<u16, Refusal>
-        ensures value { λ r. ⌜ placed r (now (self .exit) .at) ≡ wordingLength (now (now (self .entry) .file)) (now (self .entry) .at) ⌝ }
-        ensures file { λ _. ⌜ now (now (self .exit) .file) ≡ now (now (self .entry) .file) ⌝ }
-        ensures stays { λ r. ⌜ Stays r (now (self .entry) .at) (now (self .exit) .at) ⌝ }
+        ensures read { λ r. ⌜ Walked wordingLength r (now (now (self .entry) .file)) (now (self .entry) .at) (now (now (self .exit) .file)) (now (self .exit) .at) ⌝ }
     {
         self.ranged(1, 63, Cause::BadWording)
     }

@@ -11,18 +11,18 @@ loop-done-holds c = (sofar-none _ _ _ _ _ _ (linked-first _ _), refl)
 pub returns-in-Break-next : need.returns-in-Break-next
 returns-in-Break-next c =
     let p = err-from-errBy (c .from-residual .result) (c .from-residual .ensures .1) in
-    let v = c .in-Break-next .ensures tt in
+    let v = c .in-Break-next .ensures tt .read in
     rw (p .1, p .2)
     record {
       value = sofar-fault _ _ _ _ _ _ _ _ _ (c .loop-done .inv .0) _ (c .loop-done-test .taken) (λ _ _. v .value);
-      file = v .file ∙ c .loop-done .inv .0 .file-same;
+      file = v .same ∙ c .loop-done .inv .0 .file-same;
       lent = c .loop-done .inv .1;
     }
 
 pub loop-done-again : need.loop-done-again
 loop-done-again c =
-    let v = c .in-Continue-next .ensures tt in (
-      sofar-more _ _ _ _ _ _ _ _ _ (c .loop-done .inv .0) _ _ _ _ (c .loop-done-test .taken) (λ _ _. v .value) (v .file)
+    let v = c .in-Continue-next .ensures tt .read in (
+      sofar-more _ _ _ _ _ _ _ _ _ (c .loop-done .inv .0) _ _ _ _ (c .loop-done-test .taken) (λ _ _. v .value) (v .same)
           (λ done e. linked-more _ _ _ _ done e _ (c .in-Continue-next .next) (c .append .ensures .kept)),
       c .append .ensures .lent ∙ c .loop-done .inv .1,
     )

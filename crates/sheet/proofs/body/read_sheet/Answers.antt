@@ -36,9 +36,9 @@ returns-in-Break-count c =
     let n = c .in-Break-count .ensures tt in
     rw (p .1, p .2)
     record {
-      value = stops-count _ _ _ _ _ (h .value) (h .file) _ _ _ (vs .value .1) (vs .file) _ (n .value);
+      value = stops-count _ _ _ _ _ (h .value) (h .file) _ _ _ (vs .value .1) (vs .file) _ (n .read .value);
       within = tt;
-      file = n .file ∙ vs .file ∙ h .file;
+      file = n .read .same ∙ vs .file ∙ h .file;
       points-lent = vs .lent ∙ c .extend .ensures .lent;
       edges-lent = refl;
       loops-lent = refl;
@@ -53,9 +53,9 @@ returns-in-Break-corners c =
     let rs = c .in-Break-corners .ensures tt in
     rw (p .1, p .2)
     record {
-      value = stops-loops _ _ _ _ _ (h .value) (h .file) _ _ _ (vs .value .1) (vs .file) _ _ _ (n .value) (n .file) _ (rs .value);
+      value = stops-loops _ _ _ _ _ (h .value) (h .file) _ _ _ (vs .value .1) (vs .file) _ _ _ (n .read .value) (n .read .same) _ (rs .value);
       within = tt;
-      file = rs .file ∙ n .file ∙ vs .file ∙ h .file;
+      file = rs .file ∙ n .read .same ∙ vs .file ∙ h .file;
       points-lent = vs .lent ∙ c .extend .ensures .lent;
       edges-lent = rs .edges-lent;
       loops-lent = rs .loops-lent;
@@ -70,7 +70,7 @@ returns c =
     record {
       value = (
         _,
-        goes _ _ _ _ _ (h .value) (h .file) _ _ _ (vs .value .1) (vs .file) _ _ _ (n .value) (n .file) _ _ (rs .value .1),
+        goes _ _ _ _ _ (h .value) (h .file) _ _ _ (vs .value .1) (vs .file) _ _ _ (n .read .value) (n .read .same) _ _ (rs .value .1),
         (
           size-is _ _ _ _ _ _ _ (vs .value .2 .1) (rs .value .2 .1) (rs .value .2 .0),
           puts-both (kept (c .args .points .now .items .now) (c .args .points .now .count)) _ _ (corners (c .in-Continue-head .head .width) (c .in-Continue-head .head .height)) (vs .value .0) (c .extend .ensures .kept) (vs .value .2 .0),
@@ -79,7 +79,7 @@ returns c =
         ),
       );
       within = (h .within, n .within, rs .within);
-      file = rs .file ∙ n .file ∙ vs .file ∙ h .file;
+      file = rs .file ∙ n .read .same ∙ vs .file ∙ h .file;
       points-lent = vs .lent ∙ c .extend .ensures .lent;
       edges-lent = c .extend-2 .ensures .lent ∙ rs .edges-lent;
       loops-lent = rs .loops-lent;

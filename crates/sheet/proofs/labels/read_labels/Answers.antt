@@ -16,7 +16,7 @@ use Rattle.sheet.proofs.labels.read_labels.Needs.{then-label-wanted, else-labe
 pub returns-in-Break-count : need.returns-in-Break-count
 returns-in-Break-count c =
     let p = err-from-errBy (c .from-residual .result) (c .from-residual .ensures .1) in
-    rw (p .1, p .2) record { value = sym (stops-count _ _ _ _ (c .in-Break-count .ensures tt .value)); within = tt }
+    rw (p .1, p .2) record { value = sym (stops-count _ _ _ _ (c .in-Break-count .ensures tt .read .value)); within = tt }
 
 pub loop-done-holds : need.loop-done-holds
 loop-done-holds c = (sofar-none _ _ _ _ _ _ (found-none _), refl, tt)
@@ -29,7 +29,7 @@ returns-in-Break-label c =
     rw (p .1, p .2)
     record {
       value =
-          sym (stops-label _ _ _ _ _ _ (n .value) (n .file) _
+          sym (stops-label _ _ _ _ _ _ (n .read .value) (n .read .same) _
           (sofar-fault _ _ _ _ _ _ _ _ _ (c .loop-done .inv .0) _ (c .loop-done-test .taken) (λ done f. l .value done (f .marked))));
       within = tt;
     }
@@ -63,7 +63,7 @@ returns-in-Break-finish c =
     let a = sofar-all _ _ _ _ _ _ _ _ _ (c .loop-done .inv .0) (c .loop-done-test .left) in
     rw (p .1, p .2)
     record {
-      value = sym (stops-end _ _ _ _ _ _ (n .value) (n .file) _ _ _ (a .1) (c .loop-done .inv .0 .file-same) _ (c .in-Break-finish .ensures tt));
+      value = sym (stops-end _ _ _ _ _ _ (n .read .value) (n .read .same) _ _ _ (a .1) (c .loop-done .inv .0 .file-same) _ (c .in-Break-finish .ensures tt));
       within = tt;
     }
 
@@ -73,6 +73,6 @@ returns c =
     let a = sofar-all _ _ _ _ _ _ _ _ _ (c .loop-done .inv .0) (c .loop-done-test .left) in
     record {
       value =
-          sym (ends _ _ _ _ _ _ (n .value) (n .file) _ _ _ (a .1) (c .loop-done .inv .0 .file-same) (c .in-Continue-finish .ensures tt) ∙ ap Ok (sym (a .2 .finds)));
-      within = subst (λ f. Within f (c .loop-done .found)) (n .file) (c .loop-done .inv .2);
+          sym (ends _ _ _ _ _ _ (n .read .value) (n .read .same) _ _ _ (a .1) (c .loop-done .inv .0 .file-same) (c .in-Continue-finish .ensures tt) ∙ ap Ok (sym (a .2 .finds)));
+      within = subst (λ f. Within f (c .loop-done .found)) (n .read .same) (c .loop-done .inv .2);
     }
