@@ -8,6 +8,8 @@ use Rattle.std.specs.Options.{okOr}
 use Rattle.std.specs.Finite.{nth}
 use Rattle.std.specs.declared.result.Result.{Result}
 use Rattle.std.specs.declared.result.Result.the-variants.{Ok, Err}
+use denote.Ref.{now}
+use Rattle.lent.specs.declared.LentList.{LentList}
 use Rattle.refusal.specs.declared.Cause.{Cause}
 use Rattle.refusal.specs.declared.Cause.the-variants.{TableTooShort, OutOfRange}
 
@@ -18,6 +20,10 @@ pub record Kept (X : Type 0) : Type 0 where
 
 abbrev pub kept : {X : Type 0} → List X → ℕ → Kept X
 kept items count = record { items = items; count = count }
+
+-- what a list over a lent slice keeps
+abbrev pub keptIn : {X : Type 0} → LentList X → Kept X
+keptIn l = kept (now (l .items)) (l .count)
 
 abbrev pub elements : {X : Type 0} → Kept X → List X
 elements k = take (k .count) (k .items)

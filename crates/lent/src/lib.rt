@@ -2,7 +2,7 @@
 ghost use denote.Ref.{name};
 ghost use lib.ListN.{length};
 ghost use mathlib.Core.Path.{_≡_};
-ghost use Rattle.lent.specs.Kept.{appendSaid, elements, kept, none, put, puts, readSaid};
+ghost use Rattle.lent.specs.Kept.{appendSaid, elements, kept, keptIn, none, put, puts, readSaid};
 use refusal::Cause;
 
 /// A list of the first `count` elements of a lent slice.
@@ -15,7 +15,7 @@ pub struct LentList<'a, T> {
 impl<'a, T: Copy> LentList<'a, T> {
     /// The list of the first `count` elements of `items`, or of all where there are fewer.
     pub fn over(items: &'a mut [T], count: usize) -> LentList<'a, T>
-        ensures kept { λ r. ⌜ kept (now (r .items)) (r .count) ≡ kept (now (items .entry)) count ⌝ }
+        ensures kept { λ r. ⌜ keptIn r ≡ kept (now (items .entry)) count ⌝ }
         ensures lent { λ r. ⌜ name (r .items) ≡ name (items .entry) ⌝ }
     {
         LentList { items, count }
@@ -23,15 +23,15 @@ impl<'a, T: Copy> LentList<'a, T> {
 
     /// How many elements the list has.
     pub fn count(&self) -> usize
-        ensures { λ r. ⌜ r ≡ length (elements (kept (now (now (self .entry) .items)) (now (self .entry) .count))) ⌝ }
+        ensures { λ r. ⌜ r ≡ length (elements (keptIn (now (self .entry)))) ⌝ }
     {
         self.count.min(self.items.len())
     }
 
     /// Puts `item` behind the last element; refused where the slice is full.
     pub fn append(&mut self, item: T) -> Result<(), Cause>
-        ensures said { λ r. ⌜ r ≡ appendSaid (kept (now (now (self .entry) .items)) (now (self .entry) .count)) ⌝ }
-        ensures kept { λ _. ⌜ kept (now (now (self .exit) .items)) (now (self .exit) .count) ≡ put (kept (now (now (self .entry) .items)) (now (self .entry) .count)) item ⌝ }
+        ensures said { λ r. ⌜ r ≡ appendSaid (keptIn (now (self .entry))) ⌝ }
+        ensures kept { λ _. ⌜ keptIn (now (self .exit)) ≡ put (keptIn (now (self .entry))) item ⌝ }
         ensures lent { λ _. ⌜ name (now (self .exit) .items) ≡ name (now (self .entry) .items) ⌝ }
     {
         if self.count >= self.items.len() {
@@ -44,7 +44,7 @@ impl<'a, T: Copy> LentList<'a, T> {
 
     /// Puts each of `more` behind the last element, as far as there is room.
     pub fn extend(&mut self, more: &[T])
-        ensures kept { λ _. ⌜ kept (now (now (self .exit) .items)) (now (self .exit) .count) ≡ puts (kept (now (now (self .entry) .items)) (now (self .entry) .count)) (now (more .entry)) ⌝ }
+        ensures kept { λ _. ⌜ keptIn (now (self .exit)) ≡ puts (keptIn (now (self .entry))) (now (more .entry)) ⌝ }
         ensures lent { λ _. ⌜ name (now (self .exit) .items) ≡ name (now (self .entry) .items) ⌝ }
     {
         for item in more {
@@ -54,7 +54,7 @@ impl<'a, T: Copy> LentList<'a, T> {
 
     /// The element at position `k`; refused past the last one.
     pub fn read(&self, k: usize) -> Result<T, Cause>
-        ensures { λ r. ⌜ r ≡ readSaid (kept (now (now (self .entry) .items)) (now (self .entry) .count)) k ⌝ }
+        ensures { λ r. ⌜ r ≡ readSaid (keptIn (now (self .entry))) k ⌝ }
     {
         let items: &[T] = self.items;
         if k >= self.count || k >= items.len() {
@@ -65,7 +65,7 @@ impl<'a, T: Copy> LentList<'a, T> {
 
     /// Takes every element out; the slice stays as it is.
     pub fn empty(&mut self)
-        ensures kept { λ _. ⌜ kept (now (now (self .exit) .items)) (now (self .exit) .count) ≡ none (kept (now (now (self .entry) .items)) (now (self .entry) .count)) ⌝ }
+        ensures kept { λ _. ⌜ keptIn (now (self .exit)) ≡ none (keptIn (now (self .entry))) ⌝ }
         ensures lent { λ _. ⌜ name (now (self .exit) .items) ≡ name (now (self .entry) .items) ⌝ }
     {
         self.count = 0;

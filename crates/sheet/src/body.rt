@@ -4,7 +4,7 @@ ghost use lib.ListN.{length};
 ghost use mathlib.Core.List.{[], _∷_};
 ghost use mathlib.Core.Path.{_≡_};
 ghost use Prim.Native.Nat.{_+_, _≤_};
-ghost use Rattle.lent.specs.Kept.{kept, puts};
+ghost use Rattle.lent.specs.Kept.{keptIn, puts};
 ghost use Rattle.std.specs.Joined.{joined};
 ghost use Rattle.std.specs.Vec.{made};
 ghost use Rattle.sheet.specs.Files.{head, ring, sheet};
@@ -29,7 +29,7 @@ fn read_vertices(
     points: &mut LentList<'_, Point>,
 ) -> Result<(), Refusal>
     ensures value { λ r. ⌜ Reads r (several (λ _. vertex width height (now (now (reader .entry) .file))) [] count (now (reader .entry) .at)) (now (reader .exit) .at)
-        (λ vs _. (kept (now (now (points .exit) .items)) (now (points .exit) .count) ≡ puts (kept (now (now (points .entry) .items)) (now (points .entry) .count)) vs) × (length vs ≡ count)) ⌝ }
+        (λ vs _. (keptIn (now (points .exit)) ≡ puts (keptIn (now (points .entry))) vs) × (length vs ≡ count)) ⌝ }
     ensures file { λ _. ⌜ now (now (reader .exit) .file) ≡ now (now (reader .entry) .file) ⌝ }
     ensures lent { λ _. ⌜ name (now (points .exit) .items) ≡ name (now (points .entry) .items) ⌝ }
 {
@@ -49,7 +49,7 @@ fn link_corners(
     edges: &mut LentList<'_, Edge>,
 ) -> Result<(), Refusal>
     ensures value { λ r. ⌜ Reads r (several (λ _. corner vertices (now (now (reader .entry) .file))) (first ∷ []) more (now (reader .entry) .at)) (now (reader .exit) .at)
-        (λ cs _. (kept (now (now (edges .exit) .items)) (now (edges .exit) .count) ≡ puts (kept (now (now (edges .entry) .items)) (now (edges .entry) .count)) (ringEdges cs)) × (length cs ≡ more + 1)) ⌝ }
+        (λ cs _. (keptIn (now (edges .exit)) ≡ puts (keptIn (now (edges .entry))) (ringEdges cs)) × (length cs ≡ more + 1)) ⌝ }
     ensures file { λ _. ⌜ now (now (reader .exit) .file) ≡ now (now (reader .entry) .file) ⌝ }
     ensures lent { λ _. ⌜ name (now (edges .exit) .items) ≡ name (now (edges .entry) .items) ⌝ }
 {
@@ -78,7 +78,7 @@ fn read_corners(
 ) -> Result<(), Refusal>
     requires { ⌜ 3 ≤ count ⌝ }
     ensures value { λ r. ⌜ Reads r (several (λ _. corner vertices (now (now (reader .entry) .file))) [] count (now (reader .entry) .at)) (now (reader .exit) .at)
-        (λ cs _. (kept (now (now (edges .exit) .items)) (now (edges .exit) .count) ≡ puts (kept (now (now (edges .entry) .items)) (now (edges .entry) .count)) (ringEdges cs)) × (length cs ≡ count)) ⌝ }
+        (λ cs _. (keptIn (now (edges .exit)) ≡ puts (keptIn (now (edges .entry))) (ringEdges cs)) × (length cs ≡ count)) ⌝ }
     ensures file { λ _. ⌜ now (now (reader .exit) .file) ≡ now (now (reader .entry) .file) ⌝ }
     ensures lent { λ _. ⌜ name (now (edges .exit) .items) ≡ name (now (edges .entry) .items) ⌝ }
 {
@@ -94,7 +94,7 @@ fn read_loop(
     edges: &mut LentList<'_, Edge>,
 ) -> Result<Loop, Refusal>
     ensures value { λ r. ⌜ Reads r (ring vertices start (now (now (reader .entry) .file)) (now (reader .entry) .at)) (now (reader .exit) .at)
-        (λ x y. (y ≡ entry start x) × (start + y .corners ≤ 6150) × (kept (now (now (edges .exit) .items)) (now (edges .exit) .count) ≡ puts (kept (now (now (edges .entry) .items)) (now (edges .entry) .count)) (ringEdges (x .corners)))) ⌝ }
+        (λ x y. (y ≡ entry start x) × (start + y .corners ≤ 6150) × (keptIn (now (edges .exit)) ≡ puts (keptIn (now (edges .entry))) (ringEdges (x .corners)))) ⌝ }
     ensures file { λ _. ⌜ now (now (reader .exit) .file) ≡ now (now (reader .entry) .file) ⌝ }
     ensures lent { λ _. ⌜ name (now (edges .exit) .items) ≡ name (now (edges .entry) .items) ⌝ }
 {
@@ -118,8 +118,8 @@ fn read_loops(
 ) -> Result<u16, Refusal>
     ensures value { λ r. ⌜ Reads r (several (λ before. ring vertices (cornersIn before) (now (now (reader .entry) .file))) [] count (now (reader .entry) .at)) (now (reader .exit) .at)
         (λ rs y. (y ≡ cornersIn rs) × (length rs ≡ count)
-        × (kept (now (now (edges .exit) .items)) (now (edges .exit) .count) ≡ puts (kept (now (now (edges .entry) .items)) (now (edges .entry) .count)) (joined (λ r. ringEdges (r .corners)) rs))
-        × (kept (now (now (loops .exit) .items)) (now (loops .exit) .count) ≡ puts (kept (now (now (loops .entry) .items)) (now (loops .entry) .count)) (loopsFrom 0 rs))) ⌝ }
+        × (keptIn (now (edges .exit)) ≡ puts (keptIn (now (edges .entry))) (joined (λ r. ringEdges (r .corners)) rs))
+        × (keptIn (now (loops .exit)) ≡ puts (keptIn (now (loops .entry))) (loopsFrom 0 rs))) ⌝ }
     ensures file { λ _. ⌜ now (now (reader .exit) .file) ≡ now (now (reader .entry) .file) ⌝ }
     ensures within { λ r. ⌜ made r (λ y. y ≤ 6150) ⌝ }
     ensures edges_lent { λ _. ⌜ name (now (edges .exit) .items) ≡ name (now (edges .entry) .items) ⌝ }
@@ -168,9 +168,9 @@ pub fn read_sheet(
 ) -> Result<Size, Refusal>
     ensures value { λ r. ⌜ Reads r (sheet (now (now (reader .entry) .file)) (now (reader .entry) .at)) (now (reader .exit) .at)
         (λ s y. (y ≡ sizeOf s)
-        × (kept (now (now (points .exit) .items)) (now (points .exit) .count) ≡ puts (kept (now (now (points .entry) .items)) (now (points .entry) .count)) (pointsOf s))
-        × (kept (now (now (edges .exit) .items)) (now (edges .exit) .count) ≡ puts (kept (now (now (edges .entry) .items)) (now (edges .entry) .count)) (edgesOf s))
-        × (kept (now (now (loops .exit) .items)) (now (loops .exit) .count) ≡ puts (kept (now (now (loops .entry) .items)) (now (loops .entry) .count)) (loopsOf s))) ⌝ }
+        × (keptIn (now (points .exit)) ≡ puts (keptIn (now (points .entry))) (pointsOf s))
+        × (keptIn (now (edges .exit)) ≡ puts (keptIn (now (edges .entry))) (edgesOf s))
+        × (keptIn (now (loops .exit)) ≡ puts (keptIn (now (loops .entry))) (loopsOf s))) ⌝ }
     ensures file { λ _. ⌜ now (now (reader .exit) .file) ≡ now (now (reader .entry) .file) ⌝ }
     ensures within { λ r. ⌜ made r (λ y. (y .inner ≤ 1024) × (y .loops ≤ 2050) × (y .corners ≤ 6150)) ⌝ }
     ensures points_lent { λ _. ⌜ name (now (points .exit) .items) ≡ name (now (points .entry) .items) ⌝ }
