@@ -11,7 +11,7 @@ use std::error::AnyError;
 
 /// A board with tables of its own.
 #[derive(Drop)]
-pub struct Parts {
+pub(crate) struct Parts {
     board: Board,
     points: Vec<Point>,
     edges: Vec<Edge>,
@@ -21,7 +21,7 @@ pub struct Parts {
 
 impl Parts {
     /// An empty Draft, over tables that have room for every sheet.
-    pub fn new(heap: Global) -> Result<Parts, AllocError> {
+    pub(crate) fn new(heap: Global) -> Result<Parts, AllocError> {
         let points = vec![in heap; Point { x: 0, y: 0 }; 1028]?;
         let edges = vec![in heap; Edge { from: 0, to: 0 }; 6154]?;
         let loops = vec![in heap; Loop {
@@ -41,7 +41,7 @@ impl Parts {
     }
 
     /// Takes the sheet of a file, or refuses it.
-    pub fn load(&mut self, file: &[u8]) -> Result<(), Refusal> {
+    pub(crate) fn load(&mut self, file: &[u8]) -> Result<(), Refusal> {
         let points = self.points.as_mut_slice();
         let edges = self.edges.as_mut_slice();
         let loops = self.loops.as_mut_slice();
@@ -50,7 +50,7 @@ impl Parts {
     }
 
     /// Prints the size, the counts, and a line for each loop.
-    pub fn print(&self, rt: &LibcRuntime, file: &[u8]) -> Result<(), AnyError> {
+    pub(crate) fn print(&self, rt: &LibcRuntime, file: &[u8]) -> Result<(), AnyError> {
         let size = self.board.size;
         let width = size.width;
         let height = size.height;

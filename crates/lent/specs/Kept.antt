@@ -1,7 +1,7 @@
 -- A list kept in the front of a slice, and what its calls answer and leave.
 use mathlib.Core.Bool.{cond}
 use mathlib.Core.List.{List, [], _∷_, _++_}
-use Prim.Native.Nat.{ℕ, _+_}
+use Prim.Native.Nat.{ℕ, _+_, min}
 use lib.Dec.{ltb}
 use lib.ListN.{length, set, take, drop}
 use Rattle.std.specs.Options.{okOr}
@@ -24,6 +24,10 @@ kept items count = record { items = items; count = count }
 -- what a list over a lent slice keeps
 abbrev pub keptIn : {X : Type 0} → LentList X → Kept X
 keptIn l = kept (now (l .items)) (l .count)
+
+-- how many elements there are: no more than the slice has
+abbrev pub countOf : {X : Type 0} → Kept X → ℕ
+countOf k = min (k .count) (length (k .items))
 
 abbrev pub elements : {X : Type 0} → Kept X → List X
 elements k = take (k .count) (k .items)

@@ -1,8 +1,7 @@
 //! A list over a slice that the caller lends: its elements are the first of the slice, and it never allocates.
 ghost use denote.Ref.{name};
-ghost use lib.ListN.{length};
 ghost use mathlib.Core.Path.{_≡_};
-ghost use Rattle.lent.specs.Kept.{appendSaid, elements, kept, keptIn, none, put, puts, readSaid};
+ghost use Rattle.lent.specs.Kept.{appendSaid, countOf, kept, keptIn, none, put, readSaid};
 use refusal::Cause;
 
 /// A list of the first `count` elements of a lent slice.
@@ -23,7 +22,7 @@ impl<'a, T: Copy> LentList<'a, T> {
 
     /// How many elements the list has.
     pub fn count(&self) -> usize
-        ensures { λ r. ⌜ r ≡ length (elements (keptIn (now (self .entry)))) ⌝ }
+        ensures { λ r. ⌜ r ≡ countOf (keptIn (now (self .entry))) ⌝ }
     {
         self.count.min(self.items.len())
     }
@@ -42,25 +41,11 @@ impl<'a, T: Copy> LentList<'a, T> {
         Ok(())
     }
 
-    /// Puts each of `more` behind the last element, as far as there is room.
-    pub fn extend(&mut self, more: &[T])
-        ensures kept { λ _. ⌜ keptIn (now (self .exit)) ≡ puts (keptIn (now (self .entry))) (now (more .entry)) ⌝ }
-        ensures lent { λ _. ⌜ name (now (self .exit) .items) ≡ name (now (self .entry) .items) ⌝ }
-    {
-        for item in more {
-            let _ = self.append(*item);
-        }
-    }
-
     /// The element at position `k`; refused past the last one.
     pub fn read(&self, k: usize) -> Result<T, Cause>
         ensures { λ r. ⌜ r ≡ readSaid (keptIn (now (self .entry))) k ⌝ }
     {
-        let items: &[T] = self.items;
-        if k >= self.count || k >= items.len() {
-            return Err(Cause::OutOfRange);
-        }
-        Ok(items[k])
+        read_front(self.items, self.count, k)
     }
 
     /// Takes every element out; the slice stays as it is.
@@ -70,4 +55,14 @@ impl<'a, T: Copy> LentList<'a, T> {
     {
         self.count = 0;
     }
+}
+
+// The element at position `k` of the first `count` of a slice.
+fn read_front<T: Copy>(items: &[T], count: usize, k: usize) -> Result<T, Cause>
+    ensures { λ r. ⌜ r ≡ readSaid (kept (now (items .entry)) count) k ⌝ }
+{
+    if k >= count || k >= items.len() {
+        return Err(Cause::OutOfRange);
+    }
+    Ok(items[k])
 }

@@ -20,6 +20,16 @@ use plane::Point;
 use reader::Reader;
 use refusal::Refusal;
 
+// Puts each of the items behind the last of a list, as far as it has room.
+fn append_all<T: Copy>(list: &mut LentList<'_, T>, items: &[T])
+    ensures kept { λ _. ⌜ keptIn (now (list .exit)) ≡ puts (keptIn (now (list .entry))) (now (items .entry)) ⌝ }
+    ensures lent { λ _. ⌜ name (now (list .exit) .items) ≡ name (now (list .entry) .items) ⌝ }
+{
+    for item in items {
+        let _ = list.append(*item);
+    }
+}
+
 // The inner vertices, behind the points that the list has.
 fn read_vertices(
     reader: &mut Reader<'_>,
@@ -189,11 +199,11 @@ pub fn read_sheet(
         },
         Point { x: 0, y: height },
     ];
-    points.extend(&corners);
+    append_all(points, &corners);
     read_vertices(reader, head.inner, width, height, points)?;
     let count = reader.count(2050)?;
     let corners = read_loops(reader, head.inner + 4, count, edges, loops)?;
-    edges.extend(&OUTSIDE);
+    append_all(edges, &OUTSIDE);
     Ok(Size {
         width,
         height,

@@ -19,7 +19,7 @@ use std::error::AnyError;
 
 /// A board with tables and a store of its own.
 #[derive(Drop)]
-pub struct Table {
+pub(crate) struct Table {
     board: Board,
     points: Vec<Point>,
     edges: Vec<Edge>,
@@ -40,7 +40,7 @@ const NO_NODE: Node = Node {
 
 impl Table {
     /// An empty Draft, over tables of the least sizes.
-    pub fn new(heap: Global) -> Result<Table, AllocError> {
+    pub(crate) fn new(heap: Global) -> Result<Table, AllocError> {
         Table::sized(heap, 1028, 6154, 2050, 2050)
     }
 
@@ -73,7 +73,7 @@ impl Table {
     }
 
     /// Plays one command, and prints its outcome.
-    pub fn play(&mut self, rt: &LibcRuntime, line: &str) -> Result<(), AnyError> {
+    pub(crate) fn play(&mut self, rt: &LibcRuntime, line: &str) -> Result<(), AnyError> {
         let mut words = line.split(' ');
         let command = words.next().unwrap_or("");
         let first = words.next().unwrap_or("");

@@ -12,7 +12,7 @@ fn digit(b: u8) -> Option<u8> {
 }
 
 /// The bytes that a word of hexadecimal digits stands for; none where it is no such word.
-pub fn bytes_of(heap: Global, word: &str) -> Result<Option<Vec<u8>>, AllocError> {
+pub(crate) fn bytes_of(heap: Global, word: &str) -> Result<Option<Vec<u8>>, AllocError> {
     let mut bytes = Vec::new(heap);
     for pair in word.as_bytes().chunks(2) {
         let [high, low] = pair else {
@@ -27,6 +27,6 @@ pub fn bytes_of(heap: Global, word: &str) -> Result<Option<Vec<u8>>, AllocError>
 }
 
 /// One step of a digest over many numbers.
-pub fn digest(before: u32, number: u16) -> u32 {
+pub(crate) fn digest(before: u32, number: u16) -> u32 {
     before.wrapping_mul(31).wrapping_add(u32::from(number))
 }

@@ -23,7 +23,7 @@ returns-in-Break-read-vertices c =
       value = stops-vertices _ _ _ _ _ (h .value) (h .file) _ (vs .value);
       within = tt;
       file = vs .file ∙ h .file;
-      points-lent = vs .lent ∙ c .extend .ensures .lent;
+      points-lent = vs .lent ∙ c .append-all .ensures .lent;
       edges-lent = refl;
       loops-lent = refl;
     }
@@ -39,7 +39,7 @@ returns-in-Break-count c =
       value = stops-count _ _ _ _ _ (h .value) (h .file) _ _ _ (vs .value .1) (vs .file) _ (n .read .value);
       within = tt;
       file = n .read .same ∙ vs .file ∙ h .file;
-      points-lent = vs .lent ∙ c .extend .ensures .lent;
+      points-lent = vs .lent ∙ c .append-all .ensures .lent;
       edges-lent = refl;
       loops-lent = refl;
     }
@@ -56,7 +56,7 @@ returns-in-Break-corners c =
       value = stops-loops _ _ _ _ _ (h .value) (h .file) _ _ _ (vs .value .1) (vs .file) _ _ _ (n .read .value) (n .read .same) _ (rs .value);
       within = tt;
       file = rs .file ∙ n .read .same ∙ vs .file ∙ h .file;
-      points-lent = vs .lent ∙ c .extend .ensures .lent;
+      points-lent = vs .lent ∙ c .append-all .ensures .lent;
       edges-lent = rs .edges-lent;
       loops-lent = rs .loops-lent;
     }
@@ -73,14 +73,14 @@ returns c =
         goes _ _ _ _ _ (h .value) (h .file) _ _ _ (vs .value .1) (vs .file) _ _ _ (n .read .value) (n .read .same) _ _ (rs .value .1),
         (
           size-is _ _ _ _ _ _ _ (vs .value .2 .1) (rs .value .2 .1) (rs .value .2 .0),
-          puts-both (kept (c .args .points .now .items .now) (c .args .points .now .count)) _ _ (corners (c .in-Continue-head .head .width) (c .in-Continue-head .head .height)) (vs .value .0) (c .extend .ensures .kept) (vs .value .2 .0),
-          puts-both (kept (c .args .edges .now .items .now) (c .args .edges .now .count)) _ _ (joined (λ r. ringEdges (r .corners)) (rs .value .0)) outside (rs .value .2 .2) (c .extend-2 .ensures .kept),
+          puts-both (kept (c .args .points .now .items .now) (c .args .points .now .count)) _ _ (corners (c .in-Continue-head .head .width) (c .in-Continue-head .head .height)) (vs .value .0) (c .append-all .ensures .kept) (vs .value .2 .0),
+          puts-both (kept (c .args .edges .now .items .now) (c .args .edges .now .count)) _ _ (joined (λ r. ringEdges (r .corners)) (rs .value .0)) outside (rs .value .2 .2) (c .append-all-2 .ensures .kept),
           rs .value .2 .3,
         ),
       );
       within = (h .within, n .within, rs .within);
       file = rs .file ∙ n .read .same ∙ vs .file ∙ h .file;
-      points-lent = vs .lent ∙ c .extend .ensures .lent;
-      edges-lent = c .extend-2 .ensures .lent ∙ rs .edges-lent;
+      points-lent = vs .lent ∙ c .append-all .ensures .lent;
+      edges-lent = c .append-all-2 .ensures .lent ∙ rs .edges-lent;
       loops-lent = rs .loops-lent;
     }

@@ -1,8 +1,8 @@
 use mathlib.Core.Path.{ap, _∙_}
 use Rattle.std.proofs.shelf.Lists.{take-all}
 use Rattle.lent.specs.Kept.{puts}
 use Rattle.lent.proofs.Puts.{puts-more}
-use Rattle.lent.proofs.LentList.extend.Needs as need
+use Rattle.sheet.proofs.body.append_all.Needs as need
 
 pub loop-item-again : need.loop-item-again
 loop-item-again g c =
