@@ -16,7 +16,7 @@ use Rattle.sheet.specs.declared.tables.Edge.{Edge}
 use Rattle.sheet.specs.declared.tables.Label.{Label}
 use Rattle.sheet.specs.declared.tables.Size.{Size}
 use Rattle.sheet.specs.Files.{SheetFile, contents, labels, sheet}
-use Rattle.sheet.specs.Load.{roomy, taken}
+use Rattle.sheet.specs.Load.{roomy, sheetOf}
 use Rattle.reader.specs.Reading.{andThen, fault}
 use Rattle.sheet.specs.Sheets.{Ring, Sheet, cornersIn, edgesOf, links, loopsFrom, loopsOf, outside, pointsOf, ringEdges, sizeOf}
 
@@ -74,14 +74,20 @@ module _ {Y : Type 0} (file : List ℕ) (go : SheetFile → Result Y Refusal) wh
     unfolding contents
     contents-whole ls l = rw (h, ← f, l) refl
 
-module _ (points edges loops : ℕ) (file : List ℕ) where
-  pub taken-short : roomy points edges loops ≡ false → taken points edges loops file ≡ Err (fault TableTooShort 0)
-  unfolding taken
-  taken-short h = rw h refl
+module _ (file : List ℕ) where
+  -- the sheet of a file, from what its readings tell
+  pub sheet-stops : (e : Refusal) → sheet file 0 ≡ Err e → sheetOf file ≡ Err e
+  unfolding sheetOf
+  sheet-stops e h = contents-stops file (λ f. Ok (f .sheet)) e h
 
-  pub taken-roomy : roomy points edges loops ≡ true → taken points edges loops file ≡ andThen (contents file) (λ f. Ok (f .sheet))
-  unfolding taken
-  taken-roomy h = rw h refl
+  module _ (s : Sheet) (at : ℕ) (file₁ : List ℕ) (h : sheet file 0 ≡ Ok (s, at)) (f : file₁ ≡ file) where
+    pub sheet-ends : (e : Refusal) → labels file₁ at ≡ Err e → sheetOf file ≡ Err e
+    unfolding sheetOf
+    sheet-ends e l = contents-ends file (λ f. Ok (f .sheet)) s at file₁ h f e l
+
+    pub sheet-whole : (ls : List Label) → labels file₁ at ≡ Ok ls → sheetOf file ≡ Ok s
+    unfolding sheetOf
+    sheet-whole ls l = contents-whole file (λ f. Ok (f .sheet)) s at file₁ h f ls l
 
 -- the loops of a sheet are few
 pub few-loops : (s : Sheet) (y : Size) → y ≡ sizeOf s → y .loops ≤ 2050 → length (loopsOf s) ≤ 2050

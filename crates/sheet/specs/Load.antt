@@ -16,10 +16,13 @@ use Rattle.sheet.specs.Sheets.{Sheet}
 abbrev pub roomy : ℕ → ℕ → ℕ → Bool
 roomy points edges loops = cond (leb 1028 points) (cond (leb 6154 edges) (leb 2050 loops) false) false
 
--- the sheet of a file, over tables of these lengths, or why it is refused: the tables come first
-unfoldable pub taken : ℕ → ℕ → ℕ → List ℕ → Result Sheet Refusal
-taken points edges loops file =
-    cond (roomy points edges loops) (andThen (contents file) (λ f. Ok (f .sheet))) (Err (fault TableTooShort 0))
+-- the sheet of a file, or its first fault
+unfoldable pub sheetOf : List ℕ → Result Sheet Refusal
+sheetOf file = andThen (contents file) (λ f. Ok (f .sheet))
+
+-- the same over tables of these lengths, which come first
+abbrev pub taken : ℕ → ℕ → ℕ → List ℕ → Result Sheet Refusal
+taken points edges loops file = cond (roomy points edges loops) (sheetOf file) (Err (fault TableTooShort 0))
 
 -- a table holds what it has of the sheet in its front, and stays where the load is refused
 abbrev pub upon : {X : Type 0} → Result Sheet Refusal → (Sheet → List X) → List X → List X

@@ -23,11 +23,16 @@ numeralAt [] l = 0
 numeralAt (r ∷ rs) zero = r .numeral
 numeralAt (r ∷ rs) (suc l) = numeralAt rs l
 
--- the numeral that an answer points to: only a face has one
-abbrev pub numeralOf : List Ring → Answer → ℕ
-numeralOf rs (Vertex v) = 0
-numeralOf rs (OpenEdge u v) = 0
-numeralOf rs (Face l) = numeralAt rs l
+-- the loop whose face an answer is: a vertex and an edge have none
+abbrev pub faceOf : Answer → Option ℕ
+faceOf (Vertex v) = None
+faceOf (OpenEdge u v) = None
+faceOf (Face l) = Some l
+
+-- the numeral of that loop, or 0
+abbrev pub numeralOf : List Ring → Option ℕ → ℕ
+numeralOf rs None = 0
+numeralOf rs (Some l) = numeralAt rs l
 
 -- the label of a numeral; 0 means that there is none
 abbrev pub labelOf : ℕ → List Label → Option Label
@@ -40,4 +45,4 @@ spoken file l = (l .place, part file (l .place) (l .length))
 -- a file that is no good is refused as load refuses it
 unfoldable pub wordingSaid : List ℕ → Answer → Result (Option (ℕ × List ℕ)) Refusal
 wordingSaid file answer =
-    andThen (contents file) (λ f. Ok (mapped (spoken file) (labelOf (numeralOf (f .sheet .rings) answer) (f .labels))))
+    andThen (contents file) (λ f. Ok (mapped (spoken file) (labelOf (numeralOf (f .sheet .rings) (faceOf answer)) (f .labels))))

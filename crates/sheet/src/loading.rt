@@ -1,12 +1,13 @@
 //! A file is taken whole into the caller's tables, or refused with nothing changed.
 ghost use lib.ListN.{length};
+ghost use mathlib.Core.Bool.{true};
 ghost use mathlib.Core.Path.{_≡_};
 ghost use Prim.Native.Nat.{ℕ, _≤_};
 ghost use Rattle.std.specs.declared.result.Result.the-variants.{Ok as Good};
 ghost use Rattle.std.specs.Vec.{made};
 ghost use Rattle.lent.specs.Kept.{over};
 ghost use Rattle.sheet.specs.Files.{sheet as sheetAt};
-ghost use Rattle.sheet.specs.Load.{roomy, taken, upon};
+ghost use Rattle.sheet.specs.Load.{roomy, sheetOf, taken, upon};
 ghost use Rattle.reader.specs.Reading.{andThen, Reads};
 ghost use Rattle.sheet.specs.Sheets.{Sheet, edgesOf, loopsOf, pointsOf, sizeOf};
 use crate::body::read_sheet;
@@ -56,6 +57,27 @@ fn keep(file: &[u8], points: &mut [Point], edges: &mut [Edge], loops: &mut [Loop
     let _ = read_sheet(&mut reader, &mut points, &mut edges, &mut loops);
 }
 
+// Takes the sheet of a file into tables that have room for it.
+fn take(
+    file: &[u8],
+    points: &mut [Point],
+    edges: &mut [Edge],
+    loops: &mut [Loop],
+) -> Result<Size, Refusal>
+    requires { ⌜ roomy (length (now points)) (length (now edges)) (length (now loops)) ≡ true ⌝ }
+    ensures said { λ r. ⌜ r ≡ andThen (sheetOf (now (file .entry))) (λ s. Good (sizeOf s)) ⌝ }
+    ensures points { λ _. ⌜ now (points .exit) ≡ upon (sheetOf (now (file .entry))) pointsOf (now (points .entry)) ⌝ }
+    ensures edges { λ _. ⌜ now (edges .exit) ≡ upon (sheetOf (now (file .entry))) edgesOf (now (edges .entry)) ⌝ }
+    ensures loops { λ _. ⌜ now (loops .exit) ≡ upon (sheetOf (now (file .entry))) loopsOf (now (loops .entry)) ⌝ }
+{
+    let mut reader = Reader::new(file);
+    let size = look(&mut reader)?;
+    let _ = read_labels(&mut reader, 0)?;
+    // Nothing is refused from here on.
+    keep(file, points, edges, loops);
+    Ok(size)
+}
+
 /// Takes the sheet of a file into the tables and answers its size; a refused file leaves them as they are.
 pub fn load(
     file: &[u8],
@@ -71,10 +93,5 @@ pub fn load(
     if !have_room(points, edges, loops) {
         return Err(fault(Cause::TableTooShort, 0));
     }
-    let mut reader = Reader::new(file);
-    let size = look(&mut reader)?;
-    let _ = read_labels(&mut reader, 0)?;
-    // Nothing is refused from here on.
-    keep(file, points, edges, loops);
-    Ok(size)
+    take(file, points, edges, loops)
 }

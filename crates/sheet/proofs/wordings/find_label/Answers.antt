@@ -31,7 +31,7 @@ returns-then-numeral-eq0 c =
     let n = c .new-reader .ensures in
     let s = c .in-Continue-numeral .ensures tt in
     let ls = made-from-ok _ _ _ (c .in-Continue-found .ensures tt .value) in
-    let zero : numeralOf (s .value .0 .rings) (c .args .answer) ≡ 0 = sym (s .value .2) ∙ c .if-numeral-eq0 .taken in
+    let zero : numeralOf (s .value .0 .rings) (c .args .face) ≡ 0 = sym (s .value .2) ∙ c .if-numeral-eq0 .taken in
     record {
       value =
           sym (contents-whole _ _ (s .value .0) _ _ (rw (n .file, n .at) at (s .value .1)) (s .file ∙ n .file) (ls .0) (ls .1)

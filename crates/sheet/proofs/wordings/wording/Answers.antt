@@ -11,13 +11,13 @@ use Rattle.sheet.proofs.wordings.wording.Needs as need
 pub returns-in-Break-label : need.returns-in-Break-label
 returns-in-Break-label c =
     let p = err-from-errBy (c .from-residual .result) (c .from-residual .ensures .1) in
-    rw (p .1, p .2) (sym (said-from _ _ _ (c .in-Break-label .ensures tt .value)))
+    rw (p .1, p .2) (sym (said-from _ _ _ (rw (c .face-of .ensures) at (c .in-Break-label .ensures tt .value))))
 
 pub returns-in-Some : need.returns-in-Some
 returns-in-Some c =
     let l = c .in-Some .label in
     let e : l .place + l .length - l .place ≡ l .length = omega arith in
-    rw e (sym (said-from _ _ _ (c .in-Continue-label .ensures tt .value) ∙ ap (λ o. Ok (mapped (spoken (c .args .file .now)) o)) (c .in-Some .is)))
+    rw e (sym (said-from _ _ _ (rw (c .face-of .ensures) at (c .in-Continue-label .ensures tt .value)) ∙ ap (λ o. Ok (mapped (spoken (c .args .file .now)) o)) (c .in-Some .is)))
 
 pub returns-in-None : need.returns-in-None
-returns-in-None c = sym (said-from _ _ _ (c .in-Continue-label .ensures tt .value) ∙ ap (λ o. Ok (mapped (spoken (c .args .file .now)) o)) (c .in-None .is))
+returns-in-None c = sym (said-from _ _ _ (rw (c .face-of .ensures) at (c .in-Continue-label .ensures tt .value)) ∙ ap (λ o. Ok (mapped (spoken (c .args .file .now)) o)) (c .in-None .is))

@@ -7,21 +7,15 @@ use Rattle.std.proofs.shelf.Results.{err-from-errBy}
 use Rattle.sheet.specs.declared.tables.Size.{Size}
 use Rattle.sheet.specs.Files.{labels, sheet}
 use Rattle.sheet.specs.Sheets.{edgesOf, loopsOf, pointsOf}
-use Rattle.sheet.proofs.Loads.{contents-ends, contents-stops, contents-whole, made-from-err, made-from-ok, room-for-points, room-for-edges, room-for-loops, taken-roomy, taken-short}
-use Rattle.sheet.proofs.loading.load.Needs as need
-
-pub returns-then-not-have-room : need.returns-then-not-have-room
-returns-then-not-have-room c =
-    let t = taken-short (length (c .args .points .now)) (length (c .args .edges .now)) (length (c .args .loops .now)) (c .args .file .now) (sym (c .if-not-have-room .ensures tt)) in
-    rw (t, c .fault .ensures) record { said = refl; points = refl; edges = refl; loops = refl }
+use Rattle.sheet.proofs.Loads.{sheet-ends, sheet-stops, sheet-whole, made-from-err, made-from-ok, room-for-points, room-for-edges, room-for-loops}
+use Rattle.sheet.proofs.loading.take.Needs as need
 
 pub returns-in-Break-size : need.returns-in-Break-size
 returns-in-Break-size c =
     let p = err-from-errBy (c .from-residual .result) (c .from-residual .ensures .1) in
     let n = c .new-reader .ensures in
     let s = c .in-Break-size .ensures tt .value in
-    let room = taken-roomy (length (c .args .points .now)) (length (c .args .edges .now)) (length (c .args .loops .now)) (c .args .file .now) (sym (c .if-not-have-room .ensures tt)) in
-    let t = room ∙ contents-stops _ _ _ (rw (n .file, n .at) at s) in
+    let t = sheet-stops (c .args .file .now) _ (rw (n .file, n .at) at s) in
     rw (p .1, p .2, t) record { said = refl; points = refl; edges = refl; loops = refl }
 
 pub returns-in-Break-read-labels : need.returns-in-Break-read-labels
@@ -30,8 +24,7 @@ returns-in-Break-read-labels c =
     let n = c .new-reader .ensures in
     let s = c .in-Continue-size .ensures tt in
     let ls = made-from-err _ _ _ (c .in-Break-read-labels .ensures tt .value) in
-    let room = taken-roomy (length (c .args .points .now)) (length (c .args .edges .now)) (length (c .args .loops .now)) (c .args .file .now) (sym (c .if-not-have-room .ensures tt)) in
-    let t = room ∙ contents-ends _ _ _ _ _ (rw (n .file, n .at) at (s .value .1)) (s .file ∙ n .file) _ ls in
+    let t = sheet-ends (c .args .file .now) _ _ _ (rw (n .file, n .at) at (s .value .1)) (s .file ∙ n .file) _ ls in
     rw (p .1, p .2, t) record { said = refl; points = refl; edges = refl; loops = refl }
 
 pub returns : need.returns
@@ -40,13 +33,13 @@ returns c =
     let edges = length (c .args .edges .now) in
     let loops = length (c .args .loops .now) in
     let n = c .new-reader .ensures in
-    let room = sym (c .if-not-have-room .ensures tt) in
+    let room = c .pre in
     let v = c .in-Continue-size .ensures tt in
     let s = v .value .0 in
     let size = v .value .2 in
     let read : sheet (c .args .file .now) 0 ≡ Ok (s, _) = rw (n .file, n .at) at (v .value .1) in
     let ls = made-from-ok _ _ _ (c .in-Continue-read-labels .ensures tt .value) in
-    let t = taken-roomy points edges loops (c .args .file .now) room ∙ contents-whole _ _ s _ _ read (v .file ∙ n .file) (ls .0) (ls .1) in
+    let t = sheet-whole (c .args .file .now) s _ _ read (v .file ∙ n .file) (ls .0) (ls .1) in
     rw t
     record {
       said = ap Ok size;
