@@ -34,7 +34,7 @@ abbrev pub loadRoom : ℕ → ℕ → ℕ → ℕ → Bool
 loadRoom points edges loops live = cond (leb 2050 live) (roomy points edges loops) false
 
 -- the sheet that a load takes, or why it is refused: first a table that is too short, then the stage, then the file
-unfoldable pub loads : Board → ℕ → ℕ → ℕ → ℕ → List ℕ → Result Sheet Refusal
+abbrev pub loads : Board → ℕ → ℕ → ℕ → ℕ → List ℕ → Result Sheet Refusal
 loads b points edges loops live file =
     cond (loadRoom points edges loops live)
     (cond (isDraft (b .stage)) (taken points edges loops file) (Err (refused NotThisStage File 0)))

@@ -1,28 +1,19 @@
 use mathlib.Core.Path.{_≡_, refl, sym, ap, _∙_}
 use borrow.Author.Needs.{needs}
 use Prim.Native.Nat.{ℕ}
+use native.Mathlib.Omega.{arith}
 use lib.ListN.{length}
 use Rattle.std.specs.declared.result.Result.the-variants.{Ok}
 use Rattle.std.proofs.shelf.Results.{err-from-errBy}
-use Rattle.lent.specs.Kept.{Kept, elements, none}
+use Rattle.lent.specs.Kept.{Kept, countOf, none}
 use Rattle.sheet.specs.Load.{upon}
 use Rattle.sheet.specs.Sheets.{edgesOf, loopsOf, pointsOf, sizeOf}
 use Rattle.sheet.proofs.Loads.{made-from-err, made-from-ok}
 use Rattle.sheet.proofs.Told.{ends-as}
 use Rattle.board.specs.declared.stage.Stage.the-variants.{Draft}
 use Rattle.board.specs.Turns.{board, isDraft}
-use Rattle.board.proofs.Loads.{loads-short, loads-late, loads-file, not-draft}
+use Rattle.board.proofs.Loads.{loads-file}
 use Rattle.board.proofs.stage.Board.load.Needs as need
-
-pub returns-then-not-have-room : need.returns-then-not-have-room
-returns-then-not-have-room c =
-    let t = loads-short (c .args .self .now) (length (c .args .points .now)) (length (c .args .edges .now)) (length (c .args .loops .now)) (length (c .args .live .now)) (c .args .file .now) (sym (c .if-not-have-room .ensures tt)) in
-    rw (t, c .new .ensures) record { said = refl; board = refl; points = refl; edges = refl; loops = refl; live = refl }
-
-pub returns-in-rest : need.returns-in-rest
-returns-in-rest c =
-    let t = loads-late (c .args .self .now) (length (c .args .points .now)) (length (c .args .edges .now)) (length (c .args .loops .now)) (length (c .args .live .now)) (c .args .file .now) (sym (c .if-not-have-room .ensures tt)) (not-draft _ (c .in-rest .not-Draft)) in
-    rw (t, c .new-in-rest .ensures) record { said = refl; board = refl; points = refl; edges = refl; loops = refl; live = refl }
 
 pub returns-in-Break-size : need.returns-in-Break-size
 returns-in-Break-size c =
@@ -45,7 +36,7 @@ returns c =
     let v = c .in-Continue-size .ensures tt in
     let k = made-from-ok _ _ _ (v .said) in
     let t = loads-file (c .args .self .now) (length (c .args .points .now)) (length (c .args .edges .now)) (length (c .args .loops .now)) (length (c .args .live .now)) (c .args .file .now) (sym (c .if-not-have-room .ensures tt)) (ap isDraft (c .in-Draft .is)) ∙ k .1 in
-    let none-live : c .count .result ≡ 0 = c .count .ensures ∙ ap (λ (l : Kept ℕ). length (elements l)) (c .empty .ensures .kept) in
+    let none-live : c .count .result ≡ 0 = c .count .ensures ∙ ap (λ (l : Kept ℕ). countOf l) (c .empty .ensures .kept) ∙ omega arith in
     rw t
     record {
       said = refl;
