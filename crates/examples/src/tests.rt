@@ -1,7 +1,10 @@
 use board::Board;
 use plane::Point;
 use reader::Reader;
+use refusal::Cause;
+use refusal::Layer;
 use refusal::Refusal;
+use refusal::RefusalDisplay;
 use sheet::Answer;
 use sheet::Edge;
 use sheet::Loop;
@@ -127,6 +130,16 @@ fn last_group_zero_is_refused() -> Result<(), Fail> {
         return Err(Fail::new("taken"));
     };
     expect(refusal, 2, 0)
+}
+
+#[test]
+fn a_refusal_says_what_to_mend(rt: LibcRuntime) -> Result<(), Fail> {
+    let refusal = Refusal::new(Cause::BytesLeft, Layer::File, 52);
+    let text = format!(rt.alloc(), "{refusal}")?;
+    check(
+        text.as_str()
+            == "refusal 11, layer 1 (file), place 52: the file goes on after its last label; cut the rest off",
+    )
 }
 
 #[test]

@@ -9,3 +9,5 @@ pub mod Labelling
 pub mod Loads
 pub mod Numerals
 pub mod Spoken
+pub mod Known
+pub mod Legals

@@ -20,7 +20,7 @@ pub record Looped (start : ℕ) (e₀ e : Kept Edge) (l₀ l : Kept Loop) (done 
 pub looped-none : (e : Kept Edge) (l : Kept Loop) → Looped 0 e e l l []
 looped-none e l = record { starts = refl; edges = refl; loops = refl }
 
-corners-push : (done : List Ring) (x : Ring) → cornersIn (done ++ x ∷ []) ≡ cornersIn done + length (x .corners)
+pub corners-push : (done : List Ring) (x : Ring) → cornersIn (done ++ x ∷ []) ≡ cornersIn done + length (x .corners)
 corners-push [] x = omega arith
 corners-push (r ∷ done) x = let h = corners-push done x in omega arith
 

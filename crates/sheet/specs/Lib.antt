@@ -2,3 +2,4 @@ pub mod Sheets
 pub mod Files
 pub mod Load
 pub mod Wordings
+pub mod Legal

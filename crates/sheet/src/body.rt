@@ -170,7 +170,7 @@ const OUTSIDE: [Edge; 4] = [
 ];
 
 /// Reads a sheet, and puts its points, edges and loops behind those that the lists have, as far as these have room.
-pub fn read_sheet(
+pub(crate) fn read_sheet(
     reader: &mut Reader<'_>,
     points: &mut LentList<'_, Point>,
     edges: &mut LentList<'_, Edge>,

@@ -40,7 +40,7 @@ fn read_label(reader: &mut Reader<'_>, seen: &mut [bool]) -> Result<Label, Refus
 }
 
 /// Reads the labels to the end of the file, and answers the one of the wanted numeral.
-pub fn read_labels(reader: &mut Reader<'_>, wanted: u16) -> Result<Option<Label>, Refusal>
+pub(crate) fn read_labels(reader: &mut Reader<'_>, wanted: u16) -> Result<Option<Label>, Refusal>
     ensures value { λ r. ⌜ r ≡ andThen (labelsOf (now (now (reader .entry) .file)) (now (reader .entry) .at)) (λ ls. Good (find wanted ls)) ⌝ }
     ensures within { λ r. ⌜ made r (Within (now (now (reader .entry) .file))) ⌝ }
 {

@@ -7,6 +7,7 @@ ghost use Rattle.std.specs.declared.result.Result.the-variants.{Ok as Good};
 ghost use Rattle.std.specs.Vec.{made};
 ghost use Rattle.lent.specs.Kept.{over};
 ghost use Rattle.sheet.specs.Files.{sheet as sheetAt};
+ghost use Rattle.sheet.specs.Legal.{TakenIsLegal};
 ghost use Rattle.sheet.specs.Load.{roomy, sheetOf, taken, upon};
 ghost use Rattle.reader.specs.Reading.{andThen, Reads};
 ghost use Rattle.sheet.specs.Sheets.{Sheet, edgesOf, loopsOf, pointsOf, sizeOf};
@@ -94,4 +95,11 @@ pub fn load(
         return Err(fault(Cause::TableTooShort, 0));
     }
     take(file, points, edges, loops)
+}
+
+/// Every file that is taken describes a sheet within its limits, with labels that can be told apart.
+pub fn taken_is_legal() -> u8
+    ensures { λ _. ⌜ TakenIsLegal ⌝ }
+{
+    0
 }
