@@ -3,12 +3,16 @@ use mathlib.Core.Bool.{Bool, true, false, cond}
 use mathlib.Core.List.{List}
 use Prim.Native.Nat.{ℕ}
 use lib.Dec.{leb}
+use lib.ListN.{length}
 use Rattle.std.specs.declared.result.Result.{Result}
 use Rattle.std.specs.declared.result.Result.the-variants.{Ok, Err}
 use Rattle.refusal.specs.declared.Cause.the-variants.{NotThisStage, TableTooShort}
 use Rattle.refusal.specs.declared.Layer.the-variants.{File}
 use Rattle.refusal.specs.declared.Refusal.{Refusal}
 use Rattle.refusal.specs.Numbers.{refused}
+use Rattle.plane.specs.declared.Point.{Point}
+use Rattle.sheet.specs.declared.tables.Edge.{Edge}
+use Rattle.sheet.specs.declared.tables.Loop.{Loop}
 use Rattle.sheet.specs.declared.tables.Size.{Size}
 use Rattle.sheet.specs.Load.{roomy, taken}
 use Rattle.sheet.specs.Sheets.{Sheet, sizeOf, sizes}
@@ -34,9 +38,9 @@ abbrev pub loadRoom : ℕ → ℕ → ℕ → ℕ → Bool
 loadRoom points edges loops live = cond (leb 2050 live) (roomy points edges loops) false
 
 -- the sheet that a load takes, or why it is refused: first a table that is too short, then the stage, then the file
-abbrev pub loads : Board → ℕ → ℕ → ℕ → ℕ → List ℕ → Result Sheet Refusal
+abbrev pub loads : Board → List Point → List Edge → List Loop → List ℕ → List ℕ → Result Sheet Refusal
 loads b points edges loops live file =
-    cond (loadRoom points edges loops live)
+    cond (loadRoom (length points) (length edges) (length loops) (length live))
     (cond (isDraft (b .stage)) (taken points edges loops file) (Err (refused NotThisStage File 0)))
     (Err (refused TableTooShort File 0))
 

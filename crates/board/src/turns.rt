@@ -53,11 +53,11 @@ impl Board {
         loops: &mut [Loop],
         live: &mut [u16],
     ) -> Result<(), Refusal>
-        ensures said { λ r. ⌜ r ≡ andThen (loads (now (self .entry)) (length (now (points .entry))) (length (now (edges .entry))) (length (now (loops .entry))) (length (now (live .entry))) (now (file .entry))) (λ _. Good tt) ⌝ }
-        ensures board { λ _. ⌜ now (self .exit) ≡ loadBoard (loads (now (self .entry)) (length (now (points .entry))) (length (now (edges .entry))) (length (now (loops .entry))) (length (now (live .entry))) (now (file .entry))) (now (self .entry)) ⌝ }
-        ensures points { λ _. ⌜ now (points .exit) ≡ upon (loads (now (self .entry)) (length (now (points .entry))) (length (now (edges .entry))) (length (now (loops .entry))) (length (now (live .entry))) (now (file .entry))) pointsOf (now (points .entry)) ⌝ }
-        ensures edges { λ _. ⌜ now (edges .exit) ≡ upon (loads (now (self .entry)) (length (now (points .entry))) (length (now (edges .entry))) (length (now (loops .entry))) (length (now (live .entry))) (now (file .entry))) edgesOf (now (edges .entry)) ⌝ }
-        ensures loops { λ _. ⌜ now (loops .exit) ≡ upon (loads (now (self .entry)) (length (now (points .entry))) (length (now (edges .entry))) (length (now (loops .entry))) (length (now (live .entry))) (now (file .entry))) loopsOf (now (loops .entry)) ⌝ }
+        ensures said { λ r. ⌜ r ≡ andThen (loads (now (self .entry)) (now (points .entry)) (now (edges .entry)) (now (loops .entry)) (now (live .entry)) (now (file .entry))) (λ _. Good tt) ⌝ }
+        ensures board { λ _. ⌜ now (self .exit) ≡ loadBoard (loads (now (self .entry)) (now (points .entry)) (now (edges .entry)) (now (loops .entry)) (now (live .entry)) (now (file .entry))) (now (self .entry)) ⌝ }
+        ensures points { λ _. ⌜ now (points .exit) ≡ upon (loads (now (self .entry)) (now (points .entry)) (now (edges .entry)) (now (loops .entry)) (now (live .entry)) (now (file .entry))) pointsOf (now (points .entry)) ⌝ }
+        ensures edges { λ _. ⌜ now (edges .exit) ≡ upon (loads (now (self .entry)) (now (points .entry)) (now (edges .entry)) (now (loops .entry)) (now (live .entry)) (now (file .entry))) edgesOf (now (edges .entry)) ⌝ }
+        ensures loops { λ _. ⌜ now (loops .exit) ≡ upon (loads (now (self .entry)) (now (points .entry)) (now (edges .entry)) (now (loops .entry)) (now (live .entry)) (now (file .entry))) loopsOf (now (loops .entry)) ⌝ }
         ensures live { λ _. ⌜ now (live .exit) ≡ now (live .entry) ⌝ }
     {
         if !have_room(points, edges, loops, live) {

@@ -86,10 +86,10 @@ pub fn load(
     edges: &mut [Edge],
     loops: &mut [Loop],
 ) -> Result<Size, Refusal>
-    ensures said { λ r. ⌜ r ≡ andThen (taken (length (now (points .entry))) (length (now (edges .entry))) (length (now (loops .entry))) (now (file .entry))) (λ s. Good (sizeOf s)) ⌝ }
-    ensures points { λ _. ⌜ now (points .exit) ≡ upon (taken (length (now (points .entry))) (length (now (edges .entry))) (length (now (loops .entry))) (now (file .entry))) pointsOf (now (points .entry)) ⌝ }
-    ensures edges { λ _. ⌜ now (edges .exit) ≡ upon (taken (length (now (points .entry))) (length (now (edges .entry))) (length (now (loops .entry))) (now (file .entry))) edgesOf (now (edges .entry)) ⌝ }
-    ensures loops { λ _. ⌜ now (loops .exit) ≡ upon (taken (length (now (points .entry))) (length (now (edges .entry))) (length (now (loops .entry))) (now (file .entry))) loopsOf (now (loops .entry)) ⌝ }
+    ensures said { λ r. ⌜ r ≡ andThen (taken (now (points .entry)) (now (edges .entry)) (now (loops .entry)) (now (file .entry))) (λ s. Good (sizeOf s)) ⌝ }
+    ensures points { λ _. ⌜ now (points .exit) ≡ upon (taken (now (points .entry)) (now (edges .entry)) (now (loops .entry)) (now (file .entry))) pointsOf (now (points .entry)) ⌝ }
+    ensures edges { λ _. ⌜ now (edges .exit) ≡ upon (taken (now (points .entry)) (now (edges .entry)) (now (loops .entry)) (now (file .entry))) edgesOf (now (edges .entry)) ⌝ }
+    ensures loops { λ _. ⌜ now (loops .exit) ≡ upon (taken (now (points .entry)) (now (edges .entry)) (now (loops .entry)) (now (file .entry))) loopsOf (now (loops .entry)) ⌝ }
 {
     if !have_room(points, edges, loops) {
         return Err(fault(Cause::TableTooShort, 0));

@@ -20,7 +20,7 @@ returns-in-Break-size c =
     let p = err-from-errBy (c .from-residual .result) (c .from-residual .ensures .1) in
     let v = c .in-Break-size .ensures tt in
     let k = made-from-err _ _ _ (v .said) in
-    let t = loads-file (c .args .self .now) (length (c .args .points .now)) (length (c .args .edges .now)) (length (c .args .loops .now)) (length (c .args .live .now)) (c .args .file .now) (sym (c .if-not-have-room .ensures tt)) (ap isDraft (c .in-Draft .is)) ∙ k in
+    let t = loads-file (c .args .self .now) (c .args .points .now) (c .args .edges .now) (c .args .loops .now) (c .args .live .now) (c .args .file .now) (sym (c .if-not-have-room .ensures tt)) (ap isDraft (c .in-Draft .is)) ∙ k in
     rw (p .1, p .2, t)
     record {
       said = refl;
@@ -35,7 +35,7 @@ pub returns : need.returns
 returns c =
     let v = c .in-Continue-size .ensures tt in
     let k = made-from-ok _ _ _ (v .said) in
-    let t = loads-file (c .args .self .now) (length (c .args .points .now)) (length (c .args .edges .now)) (length (c .args .loops .now)) (length (c .args .live .now)) (c .args .file .now) (sym (c .if-not-have-room .ensures tt)) (ap isDraft (c .in-Draft .is)) ∙ k .1 in
+    let t = loads-file (c .args .self .now) (c .args .points .now) (c .args .edges .now) (c .args .loops .now) (c .args .live .now) (c .args .file .now) (sym (c .if-not-have-room .ensures tt)) (ap isDraft (c .in-Draft .is)) ∙ k .1 in
     let none-live : c .count .result ≡ 0 = c .count .ensures ∙ ap (λ (l : Kept ℕ). countOf l) (c .empty .ensures .kept) ∙ omega arith in
     rw t
     record {
