@@ -10,9 +10,8 @@ use Rattle.reader.specs.Number.{number}
 use Rattle.reader.specs.Reading.{fault}
 use Rattle.sheet.specs.declared.answer.Answer.the-variants.{Vertex, OpenEdge, Face}
 use Rattle.sheet.specs.declared.tables.Edge.{Edge}
-use Rattle.sheet.specs.declared.tables.Label.{Label}
 use Rattle.sheet.specs.declared.tables.Loop.{Loop}
-use Rattle.sheet.specs.Files.{SheetFile, contents}
+use Rattle.sheet.specs.Files.{contents}
 use Rattle.sheet.specs.Sheets.{Ring, Sheet, edge, edgesOf, loopAt, loopsOf, point, pointsOf}
 use Rattle.sheet.specs.Wordings.{wordingSaid}
 

@@ -1,22 +1,17 @@
 -- A number is read exactly where it stands in its one spelling.
 use mathlib.Core.Path.{_≡_, refl, sym, ap, _∙_}
-use mathlib.Core.Bool.{Bool, true, false, cond}
 use mathlib.Core.List.{List, [], _∷_}
-use mathlib.Core.Logic.{_⊎_, inl, inr, ⊎-elim}
+use mathlib.Core.Logic.{_⊎_, ⊎-elim}
 use Prim.Native.Nat.{ℕ, _+_, _-_, _*_, _/_, _%_, _<_, _≤_}
 use native.Mathlib.Nat.{add-mul-mod-self-left}
 use native.Mathlib.Omega.{arith}
-use lib.Dec.{eqb, ltb}
 use lib.ListN.{length, getD, take, drop}
-use Rattle.std.specs.declared.result.Result.{Result}
-use Rattle.std.specs.declared.result.Result.the-variants.{Ok, Err}
+use Rattle.std.specs.declared.result.Result.the-variants.{Ok}
 use Rattle.std.proofs.shelf.Lists.{drop-more, getD-drop, getD-take, length-drop, length-take}
-use Rattle.std.proofs.shelf.Tests.{cases-lt, cond-true, cond-false, eqb-false, lt-ltb, le-ltb, ne-eqb}
+use Rattle.std.proofs.shelf.Tests.{cases-lt, cond-true, cond-false, lt-ltb, le-ltb}
 use Rattle.std.proofs.shelf.Ways.{tells}
-use Rattle.refusal.specs.declared.Refusal.{Refusal}
 use Rattle.reader.specs.Kinds.{part}
 use Rattle.reader.specs.Number.{number, spelling}
-use Rattle.reader.specs.Reading.{byte}
 use Rattle.reader.specs.Spelled.{Bytes, Stands}
 
 spell-1 : (v : ℕ) → v < 128 → spelling v ≡ v ∷ []

@@ -4,7 +4,7 @@ ghost use lib.ListN.{length as listLength};
 ghost use mathlib.Core.Path.{_≡_};
 ghost use Prim.Native.Nat.{_+_, _<_, _≤_};
 ghost use Rattle.reader.specs.Kinds.{ranged as rangedOf, edition as editionOf, extent as extentOf, count as countOf, vertex as vertexOf, numeral as numeralOf, cornerCount, corner as cornerOf, labelNumeral, wordingLength, wording as wordingOf, part, finish as finishOf};
-ghost use Rattle.reader.specs.Reading.{ended, fault as faultOf, placed, Stays, Walked};
+ghost use Rattle.reader.specs.Reading.{ended, fault as faultOf, Stays, Walked};
 ghost use Rattle.reader.specs.Number.{number as numberOf};
 ghost use Rattle.reader.specs.Spelled.{Spelled};
 ghost use Rattle.std.specs.Vec.{made};

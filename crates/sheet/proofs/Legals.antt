@@ -1,6 +1,6 @@
 -- Every file that is taken is within the limits.
 use mathlib.Core.Path.{_≡_, refl, sym, ap, subst, _∙_}
-use mathlib.Core.Bool.{Bool, true, false, cond}
+use mathlib.Core.Bool.{true, false, cond}
 use mathlib.Core.List.{List, [], _∷_, _++_}
 use mathlib.Core.Logic.{⊎-elim}
 use Prim.Native.Nat.{ℕ, zero, suc, _+_, _<_, _≤_}
@@ -9,22 +9,19 @@ use native.Mathlib.Omega.{arith}
 use lib.Dec.{eqb}
 use lib.ListN.{length, getD}
 use Rattle.std.specs.shelf.Lists.{All}
-use Rattle.std.specs.declared.result.Result.{Result}
-use Rattle.std.specs.declared.result.Result.the-variants.{Ok, Err}
+use Rattle.std.specs.declared.result.Result.the-variants.{Ok}
 use Rattle.std.proofs.shelf.Elements.{all-push}
 use Rattle.std.proofs.shelf.Lists.{getD-append-left, getD-push, length-push}
 use Rattle.std.proofs.shelf.Tests.{cases-lt, eq-eqb}
-use Rattle.plane.specs.declared.Point.{Point}
-use Rattle.refusal.specs.declared.Cause.the-variants.{BadEdition, BadNumeral, BadSize, BadWording, OverLimit}
-use Rattle.refusal.specs.declared.Refusal.{Refusal}
+use Rattle.refusal.specs.declared.Cause.the-variants.{BadNumeral, BadSize, BadWording, OverLimit}
 use Rattle.reader.specs.Kinds as kind
-use Rattle.reader.specs.Reading.{Read, andThen, fault, several}
+use Rattle.reader.specs.Reading.{fault, several}
 use Rattle.sheet.specs.declared.tables.Head.{Head}
 use Rattle.sheet.specs.declared.tables.Label.{Label}
 use Rattle.sheet.specs.Files.{SheetFile, contents, head, label, labelled, labels, ring, sheet}
 use Rattle.sheet.specs.Legal.{Apart, Inside, LegalFile, LegalLabel, LegalRing, LegalSheet}
 use Rattle.sheet.specs.Sheets.{Ring, Sheet, cornersIn}
-use Rattle.sheet.proofs.Known.{corner-known, count-known, fault-known, ok-same, ranged-known, several-known, test-known, then-known, vertex-known}
+use Rattle.sheet.proofs.Known.{corner-known, count-known, fault-known, ok-same, ranged-known, several-known, then-known, vertex-known}
 use Rattle.sheet.proofs.Looped.{corners-push}
 
 -- a loop

@@ -1,23 +1,21 @@
 -- What a load takes, step by step, and that the tables have room for it.
-use mathlib.Core.Path.{_≡_, refl, sym, ap, _∙_}
-use mathlib.Core.Bool.{true, false}
+use mathlib.Core.Path.{_≡_, refl, ap, _∙_}
+use mathlib.Core.Bool.{true}
 use mathlib.Core.List.{List, [], _∷_, _++_}
 use Prim.Native.Nat.{ℕ, suc, _+_, _≤_}
 use native.Mathlib.Omega.{arith}
-use lib.ListN.{length, take}
+use lib.ListN.{length}
 use Rattle.std.specs.Joined.{joined}
 use Rattle.std.specs.declared.result.Result.{Result}
 use Rattle.std.specs.declared.result.Result.the-variants.{Ok, Err}
 use Rattle.std.proofs.shelf.Lists.{length-append, length-push}
 use Rattle.std.proofs.shelf.Ways.{tells}
-use Rattle.refusal.specs.declared.Cause.the-variants.{TableTooShort}
 use Rattle.refusal.specs.declared.Refusal.{Refusal}
-use Rattle.sheet.specs.declared.tables.Edge.{Edge}
 use Rattle.sheet.specs.declared.tables.Label.{Label}
 use Rattle.sheet.specs.declared.tables.Size.{Size}
 use Rattle.sheet.specs.Files.{SheetFile, contents, labels, sheet}
 use Rattle.sheet.specs.Load.{roomy, sheetOf}
-use Rattle.reader.specs.Reading.{andThen, fault}
+use Rattle.reader.specs.Reading.{andThen}
 use Rattle.sheet.specs.Sheets.{Ring, Sheet, cornersIn, edgesOf, links, loopsFrom, loopsOf, outside, pointsOf, ringEdges, sizeOf}
 
 links-length : (v : ℕ) (vs : List ℕ) → length (links (v ∷ vs)) ≡ length vs

@@ -1,12 +1,11 @@
 -- An answer tells what was to be read: how one reading stands for another.
-use mathlib.Core.Path.{_≡_, refl, sym, ap, subst, _∙_}
+use mathlib.Core.Path.{_≡_, sym, ap, subst, _∙_}
 use native.Mathlib.Omega.{arith}
-use mathlib.Core.List.{List}
 use Prim.Native.Nat.{ℕ}
 use Rattle.std.specs.declared.result.Result.{Result}
 use Rattle.std.specs.declared.result.Result.the-variants.{Ok, Err}
 use Rattle.refusal.specs.declared.Refusal.{Refusal}
-use Rattle.reader.specs.Reading.{Read, andThen, Reads}
+use Rattle.reader.specs.Reading.{Read, Reads}
 
 -- the same was to be read, and the answer has more to do with it
 pub reads-by : {X Y : Type 0} (r : Result Y Refusal) (want want′ : Read X) (at : ℕ) (P P′ : X → Y → Type 0)

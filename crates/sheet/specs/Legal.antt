@@ -6,7 +6,6 @@ use lib.ListN.{length, getD}
 use Rattle.std.specs.shelf.Lists.{All}
 use Rattle.std.specs.declared.result.Result.the-variants.{Ok}
 use Rattle.plane.specs.declared.Point.{Point}
-use Rattle.reader.specs.Kinds.{part}
 use Rattle.sheet.specs.declared.tables.Label.{Label}
 use Rattle.sheet.specs.Files.{SheetFile, contents}
 use Rattle.sheet.specs.Sheets.{Ring, Sheet, cornersIn}

@@ -1,7 +1,7 @@
 -- A sheet as its file describes it, and what the caller's tables hold of it.
-use mathlib.Core.List.{List, [], _∷_, _++_, map}
+use mathlib.Core.List.{List, [], _∷_, _++_}
 use Prim.Native.Nat.{ℕ, _+_}
-use lib.ListN.{length, take, drop}
+use lib.ListN.{length, take}
 use Rattle.std.specs.Joined.{joined}
 use Rattle.plane.specs.declared.Point.{Point}
 use Rattle.sheet.specs.declared.tables.Edge.{Edge}

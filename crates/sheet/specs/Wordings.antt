@@ -7,12 +7,12 @@ use Rattle.std.specs.Options.{mapped}
 use Rattle.std.specs.declared.option.Option.{Option}
 use Rattle.std.specs.declared.option.Option.the-variants.{None, Some}
 use Rattle.std.specs.declared.result.Result.{Result}
-use Rattle.std.specs.declared.result.Result.the-variants.{Ok, Err}
+use Rattle.std.specs.declared.result.Result.the-variants.{Ok}
 use Rattle.refusal.specs.declared.Refusal.{Refusal}
 use Rattle.sheet.specs.declared.answer.Answer.{Answer}
 use Rattle.sheet.specs.declared.answer.Answer.the-variants.{Vertex, OpenEdge, Face}
 use Rattle.sheet.specs.declared.tables.Label.{Label}
-use Rattle.sheet.specs.Files.{SheetFile, contents, find}
+use Rattle.sheet.specs.Files.{contents, find}
 use Rattle.reader.specs.Kinds.{part}
 use Rattle.reader.specs.Reading.{andThen}
 use Rattle.sheet.specs.Sheets.{Ring}

@@ -1,10 +1,9 @@
-use mathlib.Core.Path.{_≡_, sym, ap, _∙_}
+use mathlib.Core.Path.{sym, ap, _∙_}
 use mathlib.Core.Logic.{⊎-elim}
 use Prim.Native.Nat.{_≤_, _<_}
 use native.Mathlib.Omega.{arith}
 use lib.ListN.{length, take}
 use Rattle.std.specs.Options.{okOr}
-use Rattle.std.specs.Finite.{nth}
 use Rattle.std.proofs.shelf.Lists.{length-take, getD-take}
 use Rattle.std.proofs.shelf.Maps.{nth-past, nth-read}
 use Rattle.refusal.specs.declared.Cause.the-variants.{OutOfRange}

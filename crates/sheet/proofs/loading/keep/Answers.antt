@@ -1,4 +1,3 @@
-use mathlib.Core.Path.{_≡_}
 use borrow.Author.Needs.{needs}
 use Rattle.lent.proofs.Puts.{over-from-puts}
 use Rattle.sheet.specs.Sheets.{edgesOf, loopsOf, pointsOf}

@@ -1,12 +1,8 @@
-use mathlib.Core.Path.{_≡_, refl, sym, ap, _∙_}
-use Prim.Native.Nat.{_+_, _≤_}
-use native.Mathlib.Omega.{arith}
+use mathlib.Core.Path.{_≡_, refl, ap, _∙_}
 use lib.ListN.{length}
 use Rattle.std.specs.declared.result.Result.the-variants.{Ok}
 use Rattle.std.proofs.shelf.Results.{err-from-errBy}
-use Rattle.sheet.specs.declared.tables.Size.{Size}
-use Rattle.sheet.specs.Files.{labels, sheet}
-use Rattle.sheet.specs.Sheets.{edgesOf, loopsOf, pointsOf}
+use Rattle.sheet.specs.Files.{sheet}
 use Rattle.sheet.proofs.Loads.{sheet-ends, sheet-stops, sheet-whole, made-from-err, made-from-ok, room-for-points, room-for-edges, room-for-loops}
 use Rattle.sheet.proofs.loading.take.Needs as need
 

@@ -1,12 +1,10 @@
 use mathlib.Core.Path.{_≡_, sym, ap, subst, _∙_}
-use mathlib.Core.Bool.{false, cond}
-use Prim.Native.Nat.{ℕ}
+use mathlib.Core.Bool.{false}
 use lib.Dec.{eqb}
-use Rattle.std.specs.declared.option.Option.the-variants.{None}
 use Rattle.std.specs.declared.result.Result.the-variants.{Ok}
 use Rattle.std.proofs.shelf.Results.{err-from-errBy}
 use Rattle.std.proofs.shelf.Tests.{cond-false, ne-eqb}
-use Rattle.sheet.specs.Files.{Within, find, sheet}
+use Rattle.sheet.specs.Files.{Within}
 use Rattle.sheet.specs.Wordings.{labelOf, numeralOf}
 use Rattle.sheet.proofs.Loads.{contents-ends, contents-stops, contents-whole, made-from-err, made-from-ok}
 use Rattle.sheet.proofs.wordings.find_label.Needs as need

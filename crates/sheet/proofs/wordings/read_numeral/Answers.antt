@@ -1,10 +1,6 @@
-use mathlib.Core.Path.{_≡_, refl, sym, ap, _∙_}
-use Prim.Native.Nat.{_≤_}
-use native.Mathlib.Omega.{arith}
-use lib.ListN.{length}
+use mathlib.Core.Path.{sym, ap, _∙_}
 use Rattle.lent.specs.Kept.{kept}
 use Rattle.lent.proofs.Puts.{elements-from-puts}
-use Rattle.sheet.specs.declared.tables.Size.{Size}
 use Rattle.sheet.specs.Sheets.{loopsOf}
 use Rattle.sheet.specs.Wordings.{numeralOf}
 use Rattle.sheet.proofs.Loads.{few-loops}
