@@ -14,7 +14,7 @@ use Rattle.plane.specs.declared.Point.{Point}
 use Rattle.sheet.specs.declared.tables.Edge.{Edge}
 use Rattle.sheet.specs.declared.tables.Loop.{Loop}
 use Rattle.sheet.specs.declared.tables.Size.{Size}
-use Rattle.sheet.specs.Load.{roomy, taken}
+use Rattle.sheet.specs.Load.{roomy, sheetOf}
 use Rattle.sheet.specs.Sheets.{Sheet, sizeOf, sizes}
 use Rattle.board.specs.declared.stage.Board.{Board}
 use Rattle.board.specs.declared.stage.Stage.{Stage}
@@ -33,7 +33,7 @@ isDraft Checked = false
 isDraft Layered = false
 isDraft Sealed = false
 
--- the tables that a load is lent: at least 2,050 live numbers beside what the sheet needs
+-- the tables that a load is lent have their least sizes: 2,050 live numbers, and those of points, edges and loops
 abbrev pub loadRoom : ℕ → ℕ → ℕ → ℕ → Bool
 loadRoom points edges loops live = cond (leb 2050 live) (roomy points edges loops) false
 
@@ -41,7 +41,7 @@ loadRoom points edges loops live = cond (leb 2050 live) (roomy points edges loop
 abbrev pub loads : Board → List Point → List Edge → List Loop → List ℕ → List ℕ → Result Sheet Refusal
 loads b points edges loops live file =
     cond (loadRoom (length points) (length edges) (length loops) (length live))
-    (cond (isDraft (b .stage)) (taken points edges loops file) (Err (refused NotThisStage File 0)))
+    (cond (isDraft (b .stage)) (sheetOf file) (Err (refused NotThisStage File 0)))
     (Err (refused TableTooShort File 0))
 
 -- a Draft with that sheet and no live nodes; a refused load leaves the board as it is

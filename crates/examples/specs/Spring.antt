@@ -69,7 +69,7 @@ pub record Worded : Type 0 where
 
 -- a last group of 0 is refused where there are several
 abbrev pub Refused : Type 0
-Refused = number (128 ∷ 0 ∷ []) 0 ≡ Err (fault BadNumber 0)
+Refused = (number (128 ∷ 0 ∷ []) 0 ≡ Err (fault BadNumber 0)) × (contents (128 ∷ 0 ∷ []) ≡ Err (fault BadNumber 0))
 
 abbrev pub Examples : Type 0
 Examples = Refused × Taken × Worded

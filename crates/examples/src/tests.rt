@@ -1,4 +1,10 @@
 use board::Board;
+use nodes::Node;
+use nodes::ReadStore;
+use nodes::SliceReading;
+use nodes::SliceStore;
+use nodes::SliceWriting;
+use nodes::WriteStore;
 use plane::Point;
 use reader::Reader;
 use refusal::Cause;
@@ -111,6 +117,16 @@ const NO_POINT: Point = Point { x: 0, y: 0 };
 
 const NO_EDGE: Edge = Edge { from: 0, to: 0 };
 
+const NO_NODE: Node = Node {
+    a: 0,
+    b: 0,
+    c: 0,
+    ring: 0,
+    sides: 0,
+    count: 0,
+    children: [0; 8],
+};
+
 const NO_LOOP: Loop = Loop {
     numeral: 0,
     start: 0,
@@ -152,8 +168,8 @@ fn tables_hold_the_spring_sheet() -> Result<(), Fail> {
     let Ok(()) = board.load(&SPRING, &mut points, &mut edges, &mut loops, &mut live) else {
         return Err(Fail::new("refused"));
     };
-    check_eq(board.size.inner, 4)?;
-    check_eq(board.size.corners, 20)?;
+    check_eq(board.size().inner, 4)?;
+    check_eq(board.size().corners, 20)?;
     for (got, want) in points.iter().zip(POINTS.iter()) {
         check_eq((got.x, got.y), *want)?;
     }
@@ -177,6 +193,18 @@ fn short_tables_come_before_a_bad_file() -> Result<(), Fail> {
         return Err(Fail::new("taken"));
     };
     expect(refusal, 12, 0)
+}
+
+#[test]
+fn wipe_empties_the_store() -> Result<(), Fail> {
+    let mut slots = [NO_NODE; 2];
+    let mut store = SliceStore::new(&mut slots);
+    let _ = store.add(NO_NODE);
+    check_eq(store.count(), 1)?;
+    let mut board = Board::new();
+    board.wipe(&mut store);
+    check_eq(store.count(), 0)?;
+    check_eq(board.size().width, 0)
 }
 
 #[test]

@@ -24,10 +24,13 @@ fn read_file(rt: &LibcRuntime, path: &str) -> Result<Vec<u8>, AnyError> {
 fn run(rt: &LibcRuntime) -> Result<Option<Refusal>, AnyError> {
     let mut args = env::args(rt)?;
     let _ = args.next();
-    let Some(path) = args.next() else {
-        return Err("use: label SHEET".into());
+    let (Some(path), None) = (args.next(), args.next()) else {
+        return Err("one sheet file is wanted: label SHEET".into());
     };
-    let file = read_file(rt, path.as_str())?;
+    let file = match read_file(rt, path.as_str()) {
+        Ok(file) => file,
+        Err(e) => return Err(format!(rt.alloc(), "{path}: {e}")?.into()),
+    };
     let mut parts = Parts::new(rt.alloc())?;
     if let Err(refusal) = parts.load(file.as_slice()) {
         return Ok(Some(refusal));

@@ -51,7 +51,7 @@ impl Parts {
 
     /// Prints the size, the counts, and a line for each loop.
     pub(crate) fn print(&self, rt: &LibcRuntime, file: &[u8]) -> Result<(), AnyError> {
-        let size = self.board.size;
+        let size = self.board.size();
         let width = size.width;
         let height = size.height;
         let inner = size.inner;
@@ -101,7 +101,7 @@ impl Parts {
         for _ in 0..256 {
             words.push(String::from_str(heap, "-")?)?;
         }
-        for number in 0..self.board.size.loops {
+        for number in 0..self.board.size().loops {
             let Some(entry) = self.loops.get(number as usize) else {
                 return Ok(words);
             };

@@ -2,7 +2,7 @@ ghost use mathlib.Core.Path.{_≡_};
 ghost use lib.ListN.{getD};
 ghost use Rattle.nodes.specs.Nodes.{numbers};
 
-/// A triangle of the search: its corners, the loop and the sheet's edges that it is part of, and its children.
+/// A triangle of the hierarchy: its corners, its loop, which of its sides are edges of the sheet, and its children.
 #[derive(Clone, Copy, PartialEq, Eq, Debug)]
 pub struct Node {
     /// The first corner's vertex.
@@ -11,7 +11,7 @@ pub struct Node {
     pub b: u16,
     /// The third corner's vertex, counterclockwise.
     pub c: u16,
-    /// The number of the loop that the triangle is part of.
+    /// The number of the loop that the triangle is part of; 0 for a node that closes a hole.
     pub ring: u16,
     /// 1 if ab is an edge of the sheet, and 2 more if bc is, and 4 more if ca is.
     pub sides: u16,

@@ -46,7 +46,7 @@ pub enum Cause {
     EdgesTouch = 19,
     /// A loop's signed area is not above 0.
     LoopTurned = 20,
-    /// Cutting, or a round, finds nothing more to do.
+    /// A loop cannot be cut, or a round takes out too few vertices.
     Stuck = 21,
     /// The store has no room for the nodes.
     StoreFull = 22,
@@ -112,7 +112,7 @@ impl Cause {
             Cause::BadNumeral =>
                 "a numeral is 0 to 255 at a loop, 1 to 255 at a label, and labelled once",
             Cause::BadWording =>
-                "a wording has 1 to 63 characters, each a printable one; shorten or retype it",
+                "a wording has 1 to 63 characters, each a printable ASCII one; shorten or retype it",
             Cause::BytesLeft => "the file goes on after its last label; cut the rest off",
             Cause::TableTooShort => "a table is too short; lend a longer one",
             Cause::LoopSum =>

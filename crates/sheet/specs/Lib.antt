@@ -1,4 +1,5 @@
 pub mod Sheets
+pub mod Answers
 pub mod Files
 pub mod Load
 pub mod Wordings

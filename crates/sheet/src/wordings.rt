@@ -1,7 +1,5 @@
 //! The wording of an answer, as a part of the caller's file itself.
-ghost use lib.ListN.{length};
 ghost use mathlib.Core.Path.{_≡_};
-ghost use Prim.Native.Nat.{_+_};
 ghost use Rattle.std.specs.declared.result.Result.the-variants.{Ok as Good};
 ghost use Rattle.std.specs.Options.{mapped};
 ghost use Rattle.std.specs.Vec.{made};

@@ -79,13 +79,14 @@ impl Table {
         let first = words.next().unwrap_or("");
         let second = words.next().unwrap_or("");
         let third = words.next().unwrap_or("");
+        let fourth = words.next().unwrap_or("");
         match command {
             "load" => self.load(rt, first),
             "wipe" => self.wipe(rt),
             "stage" => self.print_stage(rt),
             "short" => self.shorten(rt, first, second),
             "tables" => self.print_tables(rt),
-            "wording" => print_wording(rt, first, second, third),
+            "wording" => print_wording(rt, first, second, third, fourth),
             _ => Ok(rt.println("unknown command")?),
         }
     }
@@ -111,7 +112,7 @@ impl Table {
     }
 
     fn print_stage(&self, rt: &LibcRuntime) -> Result<(), AnyError> {
-        let name = match self.board.stage {
+        let name = match self.board.stage() {
             Stage::Draft => "Draft",
             Stage::Checked => "Checked",
             Stage::Layered => "Layered",
@@ -123,14 +124,19 @@ impl Table {
 
     // A new board, over tables of the least sizes but for one.
     fn shorten(&mut self, rt: &LibcRuntime, name: &str, length: &str) -> Result<(), AnyError> {
-        let length = length.parse::<u16>()? as usize;
+        let Ok(length) = length.parse::<u16>() else {
+            return Ok(rt.println("no such length")?);
+        };
+        let length = length as usize;
         let heap = rt.alloc();
         *self = match name {
             "points" => Table::sized(heap, length, 6154, 2050, 2050)?,
             "edges" => Table::sized(heap, 1028, length, 2050, 2050)?,
             "loops" => Table::sized(heap, 1028, 6154, length, 2050)?,
             "live" => Table::sized(heap, 1028, 6154, 2050, length)?,
-            _ => Table::new(heap)?,
+            // No turn is lent the strokes yet.
+            "strokes" => Table::new(heap)?,
+            _ => return Ok(rt.println("no such table")?),
         };
         Ok(rt.println("ok")?)
     }
@@ -143,8 +149,8 @@ impl Table {
             inner,
             loops,
             corners,
-        } = self.board.size;
-        let live = self.board.live;
+        } = self.board.size();
+        let live = self.board.live();
         let outside = if width == 0 { 0 } else { 4 };
         let points_digest = digest_points(self.points.as_slice(), inner as usize + outside);
         let edges_digest = digest_edges(self.edges.as_slice(), corners as usize + outside);
@@ -193,16 +199,34 @@ fn print_refusal(rt: &LibcRuntime, refusal: Refusal) -> Result<(), AnyError> {
     Ok(())
 }
 
-fn print_wording(rt: &LibcRuntime, hex: &str, kind: &str, number: &str) -> Result<(), AnyError> {
-    let hex = if hex == "-" { "" } else { hex };
+// The answer that a kind and two numbers stand for.
+fn answer_of(kind: &str, a: &str, b: &str) -> Option<Answer> {
+    let Ok(a) = a.parse::<u16>() else {
+        return None;
+    };
+    let Ok(b) = b.parse::<u16>() else {
+        return None;
+    };
+    match kind {
+        "1" => Some(Answer::Vertex(a)),
+        "2" => Some(Answer::OpenEdge(a, b)),
+        "3" => Some(Answer::Face(a)),
+        _ => None,
+    }
+}
+
+fn print_wording(
+    rt: &LibcRuntime,
+    hex: &str,
+    kind: &str,
+    a: &str,
+    b: &str,
+) -> Result<(), AnyError> {
     let Some(file) = bytes_of(rt.alloc(), hex)? else {
         return Ok(rt.println("no such bytes")?);
     };
-    let number = number.parse::<u16>()?;
-    let answer = match kind {
-        "1" => Answer::Vertex(number),
-        "2" => Answer::OpenEdge(number, number),
-        _ => Answer::Face(number),
+    let Some(answer) = answer_of(kind, a, b) else {
+        return Ok(rt.println("no such answer")?);
     };
     match wording(file.as_slice(), answer) {
         Ok(None) => Ok(rt.println("ok none")?),

@@ -14,6 +14,10 @@ fn digit(b: u8) -> Option<u8> {
 /// The bytes that a word of hexadecimal digits stands for; none where it is no such word.
 pub(crate) fn bytes_of(heap: Global, word: &str) -> Result<Option<Vec<u8>>, AllocError> {
     let mut bytes = Vec::new(heap);
+    // A dash stands for no bytes at all, where an empty word would not be seen.
+    if word == "-" {
+        return Ok(Some(bytes));
+    }
     for pair in word.as_bytes().chunks(2) {
         let [high, low] = pair else {
             return Ok(None);

@@ -8,7 +8,7 @@ use Rattle.examples.proofs.examples_stand.Needs as need
 pub returns : need.returns
 unfolding contents head label labels ring several sheet wording wordingSaid
 returns c = (
-  refl,
+  (refl, refl),
   record { whole = refl; points = refl; edges = refl; loops = refl },
   record { face = refl; plain = refl; past = refl; vertex = refl; edge = refl },
 )
