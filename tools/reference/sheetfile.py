@@ -1,6 +1,6 @@
-"""A reader of sheet files, written from docs/FORMAT.md and docs/REFUSALS.md.
+"""A reader of sheet files, as docs/FORMAT.md and docs/REFUSALS.md describe them.
 
-It shares nothing with the proved core and is meant to be read in one
+It shares no code with the proved core and is meant to be read in one
 sitting: a plain index into the bytes, and an exception at the first fault.
 """
 
