@@ -1,4 +1,6 @@
 //! One sheet at its stage, and the turns that are taken with it over tables and a store that the caller lends.
+#![tactic(auto)]
+
 mod stage;
 mod turns;
 

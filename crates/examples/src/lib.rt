@@ -1,4 +1,6 @@
 //! The worked examples: proved of the definitions, and run.
+#![tactic(auto)]
+
 ghost use Rattle.examples.specs.Spring.{Examples};
 
 /// The worked examples of reading follow from the definitions.

@@ -1,4 +1,6 @@
 //! Reads a sheet file and prints its size, its counts and its parts list.
+#![tactic(auto)]
+
 mod parts;
 
 use anyhow::anyhow;

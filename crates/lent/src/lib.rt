@@ -1,4 +1,6 @@
 //! A list over a slice that the caller lends: its elements are the first of the slice, and it never allocates.
+#![tactic(auto)]
+
 ghost use Rattle.std.specs.Prelude.{◌≡◌};
 ghost use Rattle.lent.specs.Kept.{append_said, count_of, kept, kept_in, none, put, read_said};
 

@@ -1,4 +1,6 @@
 //! The nodes that are searched, and the two stores that keep them.
+#![tactic(auto)]
+
 mod block_store;
 mod node;
 mod slice_store;

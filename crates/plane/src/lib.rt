@@ -1,4 +1,6 @@
 //! The plane of a sheet: points, edges, on which side of a line a tip is, and the kernels that tell it.
+#![tactic(auto)]
+
 ghost use Rattle.std.specs.Prelude.{◌≡◌};
 ghost use Rattle.plane.specs.Identities.{Identities};
 ghost use Rattle.plane.specs.Points.{side_number};

@@ -1,4 +1,6 @@
 //! A reader of sheet files: it walks over the bytes, with a method for each kind of number and for a wording.
+#![tactic(auto)]
+
 ghost use Rattle.std.specs.Prelude.{◌≡◌, ◌+◌, ◌<◌, ◌≤◌, length as list_length, IfOk, OnOk};
 ghost use Rattle.reader.specs.Kinds.{ranged as ranged_of, edition as edition_of, extent as extent_of, count as count_of, vertex as vertex_of, numeral as numeral_of, corner_count_of, corner as corner_of, label_numeral_of, wording_length_of, wording as wording_of, part, finish as finish_of};
 ghost use Rattle.reader.specs.Reading.{ended, fault as fault_of, Stays, Walked};

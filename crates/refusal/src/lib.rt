@@ -1,4 +1,6 @@
 //! Why something that was handed in is not taken: one number, a layer and a place.
+#![tactic(auto)]
+
 ghost use Rattle.std.specs.Prelude.{◌≡◌};
 ghost use Rattle.refusal.specs.Numbers.{number as number_of, layer as layer_of, refused};
 

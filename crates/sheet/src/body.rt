@@ -119,10 +119,10 @@ fn read_loops(
     edges: &mut LentList<'_, Edge>,
     loops: &mut LentList<'_, Loop>,
 ) -> Result<u16, Refusal>
-    ensures* value { λ r. ⌜ Reads r (several (λ before. ring vertices (corners_in before) reader.old.file.now) [] count reader.old.at) reader.new.at
+    ensures value { Reads result (several (λ before. ring vertices (corners_in before) reader.old.file.now) [] count reader.old.at) reader.new.at
         (λ rs y. (y ≡ corners_in rs) × (length rs ≡ count)
         × (kept_in edges.new ≡ puts (kept_in edges.old) (flat_map (λ r. ring_edges r.corners) rs))
-        × (kept_in loops.new ≡ puts (kept_in loops.old) (loops_from 0 rs))) ⌝ }
+        × (kept_in loops.new ≡ puts (kept_in loops.old) (loops_from 0 rs))) }
     ensures file { reader.new.file.now ≡ reader.old.file.now }
     ensures within { IfOk result (λ y. y ≤ 6150) }
     ensures edges_lent { edges.new.items.ghost_name ≡ edges.old.items.ghost_name }

@@ -1,4 +1,6 @@
 //! The sheet of a file: kept in the caller's tables, or refused at a byte; and the wordings of its labels.
+#![tactic(auto)]
+
 mod answer;
 mod body;
 mod labels;

@@ -1,5 +1,7 @@
 //! Why a triangle tells the cell: crossing numbers, sums over cuts, and the theorem that exactly one cell holds each point of a
 //! sheet. Each function only carries a theorem about the definitions, so that the check asks for its proof.
+#![tactic(auto)]
+
 ghost use Rattle.tiling.specs.Lemmas.{CutHasSides, CutSum, FanSum, HasMiddle, Nudges, OpenSide, PairedSum, RectangleCounts, TriangleCounts};
 ghost use Rattle.tiling.specs.Theorems.{FanCovers, OneCell, TriangleTells};
 

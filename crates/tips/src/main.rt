@@ -1,4 +1,6 @@
 //! Plays commands on tips from standard input, and prints what the kernels tell.
+#![tactic(auto)]
+
 mod tips;
 
 use std::io::{BufRead, BufReader};

@@ -1,4 +1,6 @@
 //! Plays turns from standard input on one board, and prints a line for each outcome.
+#![tactic(auto)]
+
 mod table;
 mod words;
 

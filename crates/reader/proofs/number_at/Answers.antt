@@ -19,5 +19,5 @@ returns-else-b-eq0 c = grind (arith, nat_tests, places)
 pub returns-else-c-ge128 : goal.returns-else-c-ge128
 returns-else-c-ge128 c = grind (arith, nat_tests, places)
 
-pub returns-in-default : goal.returns-in-default
-returns-in-default c = grind (arith, nat_tests, places)
+pub returns-in_default : goal.returns-in_default
+returns-in_default c = grind (arith, nat_tests, places)

@@ -7,5 +7,5 @@ use Rattle.plane.proofs.determinant.side_against.Goals as goal
 pub returns : goal.returns
 unfolding det
 returns c =
-    let fits : SFits w64 c.determinant.result = record { sfits = c.determinant.type-inv } in
-    (simp to_z-of_z at c.sign-of.ensures) ∙ ap side_of c.determinant.ensures
+    let fits : SFits w64 c.determinant.result = record { sfits = c.determinant.type_inv } in
+    (simp to_z-of_z at c.sign_of.ensures) ∙ ap side_of c.determinant.ensures

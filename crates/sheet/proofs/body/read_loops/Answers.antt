@@ -8,24 +8,24 @@ use Rattle.sheet.proofs.body.read_loops.Goals as goal
 pub loop-done-init : goal.loop-done-init
 loop-done-init c = (sofar_none _ _ _ _ _ _ (looped_none _ _), refl, refl, omega arith)
 
-pub returns-in-err-entry : goal.returns-in-err-entry
-returns-in-err-entry c =
-    let p = err_from_is_err_and c.from-residual.result c.from-residual.ensures.1 in
-    let v = c.in-err-entry.ensures in
+pub returns-in_err-entry : goal.returns-in_err-entry
+returns-in_err-entry c =
+    let p = err_from_is_err_and c.from_residual.result c.from_residual.ensures.1 in
+    let v = c.in_err-entry.ensures in
     rw (p.1, p.2)
     record {
       value =
           sofar_fault _ _ _ _ _ _ _ _ _ c.loop-done.invariant.0 _ c.loop-done-test.true
           (λ done h. sym v.value ∙ ap (λ s. ring c.args.vertices s c.loop-done.reader.file.now c.loop-done.reader.at) h.starts);
       within = tt;
-      file = v.file ∙ c.loop-done.invariant.0.file-same;
+      file = v.file ∙ c.loop-done.invariant.0.file_same;
       edges_lent = v.lent ∙ c.loop-done.invariant.1;
-      loops-lent = c.loop-done.invariant.2;
+      loops_lent = c.loop-done.invariant.2;
     }
 
 pub loop-done-preserved : goal.loop-done-preserved
 loop-done-preserved c =
-    let v = c.in-ok-entry.ensures in
+    let v = c.in_ok-entry.ensures in
     let x = v.value.0 in (
       sofar_more _ _ _ _ _ _ _ _ _ c.loop-done.invariant.0 x _ _ _ c.loop-done-test.true
           (λ done h. sym v.value.1 ∙ ap (λ s. ring c.args.vertices s c.loop-done.reader.file.now c.loop-done.reader.at) h.starts)
@@ -42,7 +42,7 @@ returns c =
     record {
       value = (a.0, a.1, (a.2.starts, omega (arith, a.3), a.2.edges, a.2.loops));
       within = c.loop-done.invariant.3;
-      file = c.loop-done.invariant.0.file-same;
+      file = c.loop-done.invariant.0.file_same;
       edges_lent = c.loop-done.invariant.1;
-      loops-lent = c.loop-done.invariant.2;
+      loops_lent = c.loop-done.invariant.2;
     }

@@ -8,7 +8,7 @@ use Rattle.sheet.proofs.body.read_loops.Given as goal
 
 abbrev pub invariant-loop-done : goal.invariant-loop-done
 invariant-loop-done l =
-    Sofar (λ file before. ring l.vertices (corners_in before) file) l.initial.reader.file.now [] l.count l.initial.reader.at l.-done l.reader.file.now l.reader.at
+    Sofar (λ file before. ring l.vertices (corners_in before) file) l.initial.reader.file.now [] l.count l.initial.reader.at l._done l.reader.file.now l.reader.at
     (Looped l.start (kept l.initial.edges.items.now l.initial.edges.count) (kept l.edges.items.now l.edges.count)
     (kept l.initial.loops.items.now l.initial.loops.count) (kept l.loops.items.now l.loops.count))
     × (l.edges.items.ghost_name ≡ l.initial.edges.items.ghost_name)

@@ -6,6 +6,6 @@ use Rattle.sheet.proofs.labels.read_labels.Given as goal
 
 abbrev pub invariant-loop-done : goal.invariant-loop-done
 invariant-loop-done l =
-    Sofar label l.initial.reader.file.now [] l.count l.initial.reader.at l.-done l.reader.file.now l.reader.at (Found l.wanted l.seen l.found)
+    Sofar label l.initial.reader.file.now [] l.count l.initial.reader.at l._done l.reader.file.now l.reader.at (Found l.wanted l.seen l.found)
     × (length l.seen ≡ 256)
     × Within l.initial.reader.file.now l.found

@@ -6,26 +6,26 @@ use Rattle.sheet.specs.Wordings.{label_of, numeral_of}
 use Rattle.sheet.proofs.Loads.{contents_ends, contents_stops, contents_whole, made_from_err, made_from_ok}
 use Rattle.sheet.proofs.wordings.find_label.Goals as goal
 
-pub returns-in-err-numeral : goal.returns-in-err-numeral
-returns-in-err-numeral c =
-    let p = err_from_is_err_and c.from-residual.result c.from-residual.ensures.1 in
+pub returns-in_err-numeral : goal.returns-in_err-numeral
+returns-in_err-numeral c =
+    let p = err_from_is_err_and c.from_residual.result c.from_residual.ensures.1 in
     let n = c.new-reader.ensures in
-    rw (p.1, p.2) record { value = sym (contents_stops _ _ _ (rw (n.file, n.at) at c.in-err-numeral.ensures.value)); within = tt }
+    rw (p.1, p.2) record { value = sym (contents_stops _ _ _ (rw (n.file, n.at) at c.in_err-numeral.ensures.value)); within = tt }
 
-pub returns-in-err-found : goal.returns-in-err-found
-returns-in-err-found c =
-    let p = err_from_is_err_and c.from-residual-in-err-found.result c.from-residual-in-err-found.ensures.1 in
+pub returns-in_err-found : goal.returns-in_err-found
+returns-in_err-found c =
+    let p = err_from_is_err_and c.from_residual-in_err-found.result c.from_residual-in_err-found.ensures.1 in
     let n = c.new-reader.ensures in
-    let s = c.in-ok-numeral.ensures in
-    let ls = made_from_err _ _ _ c.in-err-found.ensures.value in
+    let s = c.in_ok-numeral.ensures in
+    let ls = made_from_err _ _ _ c.in_err-found.ensures.value in
     rw (p.1, p.2)
     record { value = sym (contents_ends _ _ _ _ _ (rw (n.file, n.at) at s.value.1) (s.file ∙ n.file) _ ls); within = tt }
 
 pub returns-then-numeral-eq0 : goal.returns-then-numeral-eq0
 returns-then-numeral-eq0 c =
     let n = c.new-reader.ensures in
-    let s = c.in-ok-numeral.ensures in
-    let ls = made_from_ok _ _ _ c.in-ok-found.ensures.value in
+    let s = c.in_ok-numeral.ensures in
+    let ls = made_from_ok _ _ _ c.in_ok-found.ensures.value in
     let zero : numeral_of s.value.0.rings c.args.face ≡ 0 = sym s.value.2 ∙ c.if-numeral-eq0.true in
     record {
       value =
@@ -37,14 +37,14 @@ returns-then-numeral-eq0 c =
 pub returns : goal.returns
 returns c =
     let n = c.new-reader.ensures in
-    let s = c.in-ok-numeral.ensures in
-    let ls = made_from_ok _ _ _ c.in-ok-found.ensures.value in
-    let m = c.in-ok-numeral.numeral in
+    let s = c.in_ok-numeral.ensures in
+    let ls = made_from_ok _ _ _ c.in_ok-found.ensures.value in
+    let m = c.in_ok-numeral.numeral in
     let some : eqb m 0 ≡ false = ne_eqb m 0 c.if-numeral-eq0.false in
     record {
       value =
           sym (contents_whole _ _ s.value.0 _ _ (rw (n.file, n.at) at s.value.1) (s.file ∙ n.file) ls.0 ls.1
           ∙ ap (λ k. Ok (label_of k ls.0)) (sym s.value.2)
           ∙ ap Ok (cond-false _ _ _ some ∙ sym ls.2));
-      within = subst (λ f. Within f c.in-ok-found.found) (s.file ∙ n.file) c.in-ok-found.ensures.within;
+      within = subst (λ f. Within f c.in_ok-found.found) (s.file ∙ n.file) c.in_ok-found.ensures.within;
     }

@@ -10,12 +10,12 @@ use Rattle.board.specs.Turns.{board, is_draft}
 use Rattle.board.proofs.Loads.{loads_file}
 use Rattle.board.proofs.stage.Board.load.Goals as goal
 
-pub returns-in-err-size : goal.returns-in-err-size
-returns-in-err-size c =
-    let p = err_from_is_err_and c.from-residual.result c.from-residual.ensures.1 in
-    let v = c.in-err-size.ensures in
+pub returns-in_err-size : goal.returns-in_err-size
+returns-in_err-size c =
+    let p = err_from_is_err_and c.from_residual.result c.from_residual.ensures.1 in
+    let v = c.in_err-size.ensures in
     let k = made_from_err _ _ _ v.said in
-    let t = loads_file c.args.self.now c.args.points.now c.args.edges.now c.args.loops.now c.args.live.now c.args.file.now (sym c.if-not-have-room.ensures) (ap is_draft c.in-Draft.is) ∙ k in
+    let t = loads_file c.args.self.now c.args.points.now c.args.edges.now c.args.loops.now c.args.live.now c.args.file.now (sym c.if-not-have_room.ensures) (ap is_draft c.in-Draft.is) ∙ k in
     rw (p.1, p.2, t)
     record {
       said = refl;
@@ -28,9 +28,9 @@ returns-in-err-size c =
 
 pub returns : goal.returns
 returns c =
-    let v = c.in-ok-size.ensures in
+    let v = c.in_ok-size.ensures in
     let k = made_from_ok _ _ _ v.said in
-    let t = loads_file c.args.self.now c.args.points.now c.args.edges.now c.args.loops.now c.args.live.now c.args.file.now (sym c.if-not-have-room.ensures) (ap is_draft c.in-Draft.is) ∙ k.1 in
+    let t = loads_file c.args.self.now c.args.points.now c.args.edges.now c.args.loops.now c.args.live.now c.args.file.now (sym c.if-not-have_room.ensures) (ap is_draft c.in-Draft.is) ∙ k.1 in
     let none-live : c.count.result ≡ 0 = c.count.ensures ∙ ap (λ (l : Kept ℕ). count_of l) c.empty.ensures.kept ∙ omega arith in
     rw t
     record {

@@ -16,4 +16,4 @@ returns c =
     let h : c.args.k < n = omega (arith, length_nodes bytes n) in
     let e = number_held bytes n c.args.k c.args.i h c.requires.number in
     let p = c.place-at.ensures.begins in
-    cc c.read-word.ensures
+    cc c.read_word.ensures

@@ -4,8 +4,8 @@ use Rattle.std.proofs.lemmas.List.{length-take, get_or-take}
 use Rattle.nodes.specs.Nodes.{numbers, blank}
 use Rattle.nodes.proofs.slice_store.SliceStore.read.Goals as goal
 
-pub offset-bounds-slots-k : goal.offset-bounds-slots-k
-offset-bounds-slots-k c = omega (arith, length-take c.args.self.now.used c.args.self.now.slots.now)
+pub offset_bounds-slots-k : goal.offset_bounds-slots-k
+offset_bounds-slots-k c = omega (arith, length-take c.args.self.now.used c.args.self.now.slots.now)
 
 pub bounds-slots-k : goal.bounds-slots-k
 bounds-slots-k c = omega (arith, length-take c.args.self.now.used c.args.self.now.slots.now)
