@@ -7,6 +7,7 @@ use anyhow::anyhow;
 use parts::Parts;
 use refusal::Refusal;
 use std::io::Read;
+use std::process::ExitCode;
 use std::{env, fs};
 
 // One byte more than the largest sheet file has: a longer file is seen to be one, and is never read whole.
@@ -39,16 +40,13 @@ fn run(rt: &HostRuntime) -> anyhow::Result<Option<Refusal>> {
     Ok(None)
 }
 
-fn main(rt: HostRuntime) -> anyhow::Result<()> {
+// A refusal and an error are told in one line each. They end the program with status 1, and not with an `Err`, which would be
+// printed once more.
+fn main(rt: HostRuntime) -> anyhow::Result<ExitCode> {
     match run(&rt) {
-        Ok(None) => Ok(()),
-        Ok(Some(refusal)) => {
-            eprintln!(rt; "label: {refusal}")?;
-            Err(anyhow!("the sheet is refused"))
-        }
-        Err(e) => {
-            eprintln!(rt; "label: {e}")?;
-            Err(e)
-        }
+        Ok(None) => return Ok(ExitCode::SUCCESS),
+        Ok(Some(refusal)) => eprintln!(rt; "label: {refusal}")?,
+        Err(e) => eprintln!(rt; "label: {e}")?,
     }
+    Ok(ExitCode::FAILURE)
 }

@@ -1,8 +1,8 @@
 -- Every file that is taken is within the limits.
 use Rattle.std.proofs.Common.{◌≡◌, ℕ, zero, suc, ◌+◌, ◌<◌, ◌≤◌, true, false, cond, eqb, List, [], ◌∷◌, ◌++◌, length, get_or, Ok, sym, refl, ap, ◌∙◌, subst, ⊎_elim, arith}
 use borrow.Author.Tests.{clash}
-use Rattle.std.specs.List.{AllByRecursion as All}
-use Rattle.std.proofs.ByRecursion.{All-push}
+use Rattle.std.specs.Prelude.{All}
+use Rattle.std.proofs.lemmas.List.Elements.{All-nil, All-push}
 use Rattle.std.proofs.lemmas.List.{get_or_append_left, get_or_push, length_push}
 use Rattle.std.proofs.lemmas.Bool.{cases_lt, eq-eqb}
 use Rattle.refusal.specs.declared.Cause.TheVariants.{BadNumeral, BadSize, BadWording, OverLimit}
@@ -31,7 +31,7 @@ ring_known vertices before file at r next h =
     let all =
     several_known (λ _. kind.corner vertices file) named
     (λ done at v at' p q. All-push (λ v. v < vertices) done v p (corner_known vertices file at v at' q))
-    [] k.0.0 k.0.1 cs.0.0 cs.0.1 tt cs.1 in
+    [] k.0.0 k.0.1 cs.0.0 cs.0.1 (All-nil (λ v. v < vertices)) cs.1 in
     subst (λ (x : Ring). LegalRing vertices x × (before + length x.corners ≤ 6150)) e (
       record { numeral = n.1; least = omega (arith, all.1, c.0); most = omega (arith, all.1, c.1); named = all.0 },
       omega (arith, all.1, c.2),
@@ -77,11 +77,11 @@ sheet_known file at s next h =
     let points =
     several_known (λ _. kind.vertex y.width y.height file) (All (Inside y.width y.height))
     (λ done at p at' a q. All-push (Inside y.width y.height) done p a (vertex_known y.width y.height file at p at' q))
-    [] y.inner x.0.1 vs.0.0 vs.0.1 tt vs.1 in
+    [] y.inner x.0.1 vs.0.0 vs.0.1 (All-nil (Inside y.width y.height)) vs.1 in
     let few = ranged_known 0 2050 OverLimit file vs.0.1 m.0.0 m.0.1 m.1 in
     let loops =
     several_known (λ before. ring (y.inner + 4) (corners_in before) file) (Rings (y.inner + 4)) (rings_more (y.inner + 4) file)
-    [] m.0.0 m.0.1 rs.0.0 rs.0.1 (record { corners = omega arith; legal = tt }) rs.1 in
+    [] m.0.0 m.0.1 rs.0.0 rs.0.1 (record { corners = omega arith; legal = All-nil (LegalRing (y.inner + 4)) }) rs.1 in
     let inner : length vs.0.0 ≡ y.inner = points.1 ∙ omega arith in
     subst LegalSheet is
     (record {
@@ -148,7 +148,7 @@ contents_known file f h =
     (λ done at l at' p q.
     let g = label_known file done at l at' q in
     record { legal = All-push LegalLabel done l p.legal g.0; apart = apart_push done l p.apart g.1 })
-    [] n.0.0 n.0.1 all.0.0 all.0.1 (record { legal = tt; apart = λ i j d h k e. absurd (omega arith) }) all.1 in
+    [] n.0.0 n.0.1 all.0.0 all.0.1 (record { legal = All-nil LegalLabel; apart = λ i j d h k e. absurd (omega arith) }) all.1 in
     let same : all.0.0 ≡ ls.0 = ok_same all.0.0 ls.0 end.2 in
     let is = ok_same (record { sheet = s.0.0; labels = ls.0 }) f ls.2 in
     subst LegalFile is
