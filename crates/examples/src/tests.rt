@@ -156,6 +156,6 @@ fn wording_is_a_part_of_the_file(rt: HostRuntime) -> Result<(), Fail> {
         return Err(Fail::new("no wording"));
     };
     assert_eq!(rt; part.place, 46);
-    assert!(rt; part.bytes == b"spring");
+    assert!(rt; part.bytes == b"spring".as_slice());
     Ok(())
 }
