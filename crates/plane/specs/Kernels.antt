@@ -1,11 +1,11 @@
 -- What a kernel tells of a tip, by the point that the tip means; a tip that is not fit means none.
-use Rattle.std.specs.Prelude.{◌≡◌, ℕ, Bool, true, false, cond, ◌&&◌, ℤ, pos, ◌<ℤ◌, IfSome, Some, None, Option, MatchOption, nat_le, nat_lt}
+use Rattle.std.specs.Prelude.{◌≡◌, ℕ, Bool, true, false, cond, ◌&&◌, pos, ◌<ℤ◌, IfSome, Some, None, Option, MatchOption, nat_le, nat_lt}
 use Rattle.plane.specs.declared.Point.{Point}
 use Rattle.plane.specs.declared.Side.{Side}
 use Rattle.plane.specs.declared.Side.TheVariants.{On}
 use Rattle.plane.specs.declared.rational.RationalTip.{RationalTip}
 use Rattle.plane.specs.declared.whole.WholeTip.{WholeTip}
-use Rattle.plane.specs.Points.{GridPoint, Spot, det, grid_point, is_on_sheet, side_of, spot_at}
+use Rattle.plane.specs.Points.{Spot, det, grid_point, is_on_sheet, side_of, spot_at}
 
 -- on which side of the line from a to b the tip is
 abbrev pub side_said : Option Spot → Point → Point → Side

@@ -1,15 +1,13 @@
 -- On which side of the four border edges a point of the sheet and each vertex is.
-use Rattle.std.proofs.Common.{◌≡◌, ℕ, zero, suc, ◌<◌, ◌≤◌, true, ◌&&◌, ◌⊎◌, List, [], ◌∷◌, ℤ, pos, ◌+ℤ◌, ◌-ℤ◌, ◌*ℤ◌, ◌≤ℤ◌, ◌<ℤ◌, sym, refl, ap, ◌∙◌, subst, inl, inr, arith}
-use lib.Signed.{le_z}
+use Rattle.std.proofs.Common.{◌≡◌, ℕ, zero, suc, ◌<◌, ◌⊎◌, List, [], ◌∷◌, ℤ, pos, ◌-ℤ◌, ◌*ℤ◌, ◌≤ℤ◌, ◌<ℤ◌, sym, refl, subst, inl, inr, arith}
 use Rattle.plane.specs.declared.Edge.{Edge}
 use Rattle.plane.specs.Edges.{In, edge, ring_edges}
-use Rattle.plane.specs.Points.{Spot, det, is_on_sheet, spot_at}
+use Rattle.plane.specs.Points.{Spot, spot_at}
 use Rattle.plane.proofs.Signs.{lin, right->, times-++, times->>}
 use Rattle.tiling.specs.Cells.{Subdivision}
-use Rattle.tiling.specs.Order.{InOrder, Inner}
+use Rattle.tiling.specs.Order.{InOrder}
 use Rattle.tiling.specs.Triangles.{side_at}
 use Rattle.tiling.proofs.Rectangles.{bottom, left, right, top}
-use Rattle.tiling.proofs.Segments.{At, end_on, start_on}
 
 -- the border, taken to the left
 abbrev pub frame : List Edge

@@ -1,5 +1,5 @@
 -- A triangle whose corners turn to the left counts a point once or not at all.
-use Rattle.std.proofs.Common.{◌≡◌, ℕ, cond, ◌⊎◌, [], ◌∷◌, ℤ, pos, negsuc, ◌+ℤ◌, ◌-ℤ◌, ◌*ℤ◌, neg_ℤ, ◌≤ℤ◌, ◌<ℤ◌, sym, refl, ◌∙◌, subst, inl, inr}
+use Rattle.std.proofs.Common.{◌≡◌, cond, ◌⊎◌, ℤ, pos, negsuc, ◌+ℤ◌, ◌-ℤ◌, ◌*ℤ◌, neg_ℤ, ◌≤ℤ◌, ◌<ℤ◌, refl, ◌∙◌, subst, inl, inr}
 use lib.Signed.{lt_z}
 use Rattle.std.proofs.lemmas.Int.{by_lt_z}
 use Rattle.plane.specs.declared.Edge.{Edge}
@@ -10,8 +10,8 @@ use Rattle.plane.specs.Points.{GridPoint, Spot, area, det}
 use Rattle.plane.proofs.Determinants.{identities}
 use Rattle.plane.proofs.Passings.{falls, rises, stays_high, stays_low}
 use Rattle.plane.proofs.Signs.{lin, neg_times, right_0, swapped, times-++, times-+-, times--+, times---, times-<<, times-<>, times->>, zero_left}
-use Rattle.tiling.specs.Lemmas.{Counts, TriangleCounts}
-use Rattle.tiling.specs.Triangles.{Leftward, Triangle, side_at, sides, turns}
+use Rattle.tiling.specs.Lemmas.{TriangleCounts}
+use Rattle.tiling.specs.Triangles.{side_at, sides, turns}
 
 -- what a count w tells of a point whose sides of the three edges are d, e and f
 record Told (w d e f : ℤ) : Type 0 where

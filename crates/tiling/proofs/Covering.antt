@@ -1,15 +1,15 @@
 -- Closed triangles: what they hold, how a point is nudged into one, and lists of triangles that cover the same.
-use Rattle.std.proofs.Common.{◌≡◌, ℕ, ◌⊎◌, List, [], ◌∷◌, ◌++◌, ℤ, pos, ◌+ℤ◌, neg_ℤ, ◌≤ℤ◌, ◌<ℤ◌, sym, refl, ◌∙◌, inl, inr}
+use Rattle.std.proofs.Common.{◌≡◌, ℕ, ◌⊎◌, List, ◌++◌, ℤ, pos, ◌≤ℤ◌, ◌<ℤ◌, sym, ◌∙◌, inl, inr}
 use Rattle.std.specs.List.{flat_map}
 use Rattle.std.proofs.lemmas.Int.{by_lt_z}
 use Rattle.plane.specs.declared.Edge.{Edge}
 use Rattle.plane.specs.Crossings.{edge_crossing}
-use Rattle.plane.specs.Edges.{In, ring_edges, sum}
+use Rattle.plane.specs.Edges.{In, sum}
 use Rattle.plane.specs.Points.{GridPoint, Spot}
 use Rattle.plane.proofs.Passings.{crossing_back}
 use Rattle.plane.proofs.Signs.{lin}
 use Rattle.tiling.specs.Cuts.{Cut}
-use Rattle.tiling.specs.Lemmas.{Near, Odd}
+use Rattle.tiling.specs.Lemmas.{Odd}
 use Rattle.tiling.specs.Triangles.{AllLeftward, Leftward, Triangle, around, fan, side_at, sides, turns}
 use Rattle.tiling.proofs.Counting.{triangle_counts}
 use Rattle.tiling.proofs.Cuts.{cut_sum}

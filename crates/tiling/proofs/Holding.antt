@@ -1,11 +1,11 @@
 -- The tests of the definitions, and the facts that they decide.
-use Rattle.std.proofs.Common.{◌≡◌, ℕ, ◌<◌, ◌≤◌, Bool, true, false, not, ◌&&◌, ◌||◌, eqb, ltb, ◌⊎◌, List, [], ◌∷◌, length, ℤ, pos, ◌-ℤ◌, ◌*ℤ◌, ◌≤ℤ◌, ◌<ℤ◌, sym, refl, ap, ◌∙◌, subst, inl, inr, arith}
+use Rattle.std.proofs.Common.{◌≡◌, ℕ, ◌<◌, ◌≤◌, Bool, true, false, ◌&&◌, eqb, ltb, ◌⊎◌, List, [], ◌∷◌, ℤ, pos, ◌*ℤ◌, ◌≤ℤ◌, ◌<ℤ◌, sym, refl, ap, ◌∙◌, subst, inl, inr, arith}
 use lib.Signed.{le_z, lt_z}
 use Rattle.std.proofs.lemmas.Bool.{and_from, and_parts, both_ways, cases_order, cond-false, cond-true, eq-eqb, eqb-true, false≢true, le-ltb, lt-ltb, ltb-true, not_from_false, not-true, or_cases, or_from, or_left, or_right}
 use Rattle.plane.specs.declared.Edge.{Edge}
 use Rattle.plane.specs.Crossings.{crossing_sum}
 use Rattle.plane.specs.Edges.{In, back, edge}
-use Rattle.plane.specs.Points.{GridPoint, Spot, ahead, along, between, det, int_same, is_at, on_segment, is_on_sheet}
+use Rattle.plane.specs.Points.{GridPoint, Spot, ahead, along, between, int_same, is_at, on_segment, is_on_sheet}
 use Rattle.plane.proofs.Ring.{lit, ring, same?}
 use Rattle.plane.proofs.Signs.{lin}
 use Rattle.plane.proofs.Symbols.{aheadˢ, aˢ, pˢ, variables}
@@ -14,7 +14,7 @@ use Rattle.tiling.specs.Order.{loop_of}
 use Rattle.tiling.specs.Theorems.{edge_named}
 use Rattle.tiling.specs.Triangles.{Triangle, closed_holds, side_at, sides}
 use Rattle.tiling.proofs.Covering.{NotRight}
-use Rattle.tiling.proofs.Overlaps.{InEdge, OnEdge}
+use Rattle.tiling.proofs.Overlaps.{OnEdge}
 use Rattle.tiling.proofs.Segments.{At, Between, between_back}
 
 -- ---- numbers

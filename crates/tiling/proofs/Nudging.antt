@@ -1,5 +1,5 @@
 -- A spot as near to p as is wanted, on the way to g; and a spot strictly inside a triangle.
-use Rattle.std.proofs.Common.{◌≡◌, ℕ, suc, ◌+◌, ◌≤◌, ◌⊎◌, List, [], ◌∷◌, ℤ, pos, negsuc, ◌+ℤ◌, ◌-ℤ◌, ◌*ℤ◌, neg_ℤ, nat_abs, ◌≤ℤ◌, ◌<ℤ◌, sym, refl, ap, ◌∙◌, subst, inl, inr, arith}
+use Rattle.std.proofs.Common.{◌≡◌, ℕ, suc, ◌+◌, ◌≤◌, List, [], ◌∷◌, ℤ, pos, ◌+ℤ◌, ◌-ℤ◌, ◌*ℤ◌, neg_ℤ, nat_abs, ◌≤ℤ◌, ◌<ℤ◌, sym, ap, ◌∙◌, subst, inl, inr, arith}
 use Rattle.std.proofs.lemmas.Int.{by_lt_z}
 use Rattle.plane.specs.declared.Edge.{Edge}
 use Rattle.plane.specs.Edges.{In}
@@ -10,7 +10,7 @@ use Rattle.plane.proofs.Ring.{var, lit, ◌⊕◌, ◌⊖◌, ◌⊗◌, ring, s
 use Rattle.plane.proofs.Signs.{lin, times-++, times_neg, times->>, zero_right}
 use Rattle.plane.proofs.Symbols.{Spotˢ, areaˢ, aˢ, bˢ, cˢ, detˢ, variables}
 use Rattle.tiling.specs.Lemmas.{HasMiddle, Near, Nudges}
-use Rattle.tiling.specs.Triangles.{Triangle, side_at, sides}
+use Rattle.tiling.specs.Triangles.{side_at, sides}
 use Rattle.tiling.proofs.Segments.{area_turn}
 
 less_one : (m d : ℤ) → m *ℤ (d -ℤ pos 1) ≡ m *ℤ d -ℤ m

@@ -1,6 +1,6 @@
 -- Of two triangles on both sides of an edge, exactly one counts a point in the open edge: each of the four other sides has
 -- the point on its left, so it counts where it rises past the point, and one of the four does.
-use Rattle.std.proofs.Common.{◌≡◌, cond, ◌&&◌, ◌⊎◌, ℤ, pos, ◌+ℤ◌, ◌-ℤ◌, ◌*ℤ◌, neg_ℤ, ◌≤ℤ◌, ◌<ℤ◌, refl, ◌∙◌, inl, inr}
+use Rattle.std.proofs.Common.{◌≡◌, cond, ◌&&◌, ◌⊎◌, ℤ, pos, ◌+ℤ◌, ◌-ℤ◌, ◌*ℤ◌, ◌≤ℤ◌, ◌<ℤ◌, ◌∙◌, inl, inr}
 use lib.Signed.{le_z, lt_z}
 use Rattle.std.proofs.lemmas.Int.{by_lt_z}
 use Rattle.plane.specs.Crossings.{crossing, passing}

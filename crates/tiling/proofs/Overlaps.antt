@@ -4,7 +4,7 @@ use Rattle.std.proofs.lemmas.Int.{by_lt_z}
 use Rattle.plane.specs.declared.Edge.{Edge}
 use Rattle.plane.specs.Crossings.{edge_crossing}
 use Rattle.plane.specs.Edges.{In, back, edge, sum}
-use Rattle.plane.specs.Points.{GridPoint, Spot, area, det}
+use Rattle.plane.specs.Points.{GridPoint, Spot, area}
 use Rattle.plane.proofs.Determinants.{identities}
 use Rattle.plane.proofs.Signs.{lin, times->>}
 use Rattle.tiling.specs.Triangles.{AllLeftward, Leftward, Triangle, side_at, sides, turns}

@@ -1,17 +1,14 @@
 -- The border of a sheet: what it counts, and on which side of it points and vertices are.
-use Rattle.std.proofs.Common.{◌≡◌, ℕ, ◌⊎◌, List, [], ◌∷◌, ℤ, pos, ◌+ℤ◌, ◌-ℤ◌, ◌*ℤ◌, ◌≤ℤ◌, ◌<ℤ◌, sym, refl, ap, ◌∙◌, subst, inl, inr}
+use Rattle.std.proofs.Common.{◌≡◌, ◌⊎◌, List, [], ◌∷◌, ℤ, pos, ◌+ℤ◌, ◌-ℤ◌, ◌*ℤ◌, ◌≤ℤ◌, ◌<ℤ◌, sym, refl, ap, ◌∙◌, subst, inl, inr}
 use Rattle.std.proofs.lemmas.Int.{by_lt_z}
-use Rattle.plane.specs.declared.Edge.{Edge}
 use Rattle.plane.specs.Crossings.{crossing, crossing_sum, passing}
-use Rattle.plane.specs.Edges.{In, edge, ring_edges}
-use Rattle.plane.specs.Points.{GridPoint, Spot, det, spot_at}
+use Rattle.plane.specs.Points.{Spot, det}
 use Rattle.plane.proofs.Passings.{falls, rises, stays_high, stays_low}
 use Rattle.plane.proofs.Ring.{lit, ◌⊖◌, ◌⊗◌, ring, same?}
-use Rattle.plane.proofs.Signs.{lin, right->, swapped, times-++, times-+-, times-<>, times->>}
+use Rattle.plane.proofs.Signs.{lin, swapped, times-++, times-+-, times-<>, times->>}
 use Rattle.plane.proofs.Symbols.{GridPointˢ, aˢ, detˢ, pˢ, variables}
-use Rattle.tiling.specs.Lemmas.{Frames, RectangleCounts}
+use Rattle.tiling.specs.Lemmas.{RectangleCounts}
 use Rattle.tiling.specs.Order.{grid}
-use Rattle.tiling.specs.Triangles.{side_at}
 
 -- ---- the four sides
 

@@ -4,8 +4,8 @@ use Rattle.std.proofs.lemmas.Int.{by_lt_z}
 use Rattle.plane.specs.Identities.{height, width}
 use Rattle.plane.specs.Points.{GridPoint, Spot, ahead, along, area, det, spot_at}
 use Rattle.plane.proofs.Determinants.{along_height, along_width, identities}
-use Rattle.plane.proofs.Ring.{lit, ◌⊕◌, ◌⊖◌, ◌⊗◌, ring, same?}
-use Rattle.plane.proofs.Signs.{left->, lin, right_0, right->, swapped, times-++, times---, times_neg, times->>, zero_left, zero_right}
+use Rattle.plane.proofs.Ring.{◌⊕◌, ◌⊖◌, ◌⊗◌, ring, same?}
+use Rattle.plane.proofs.Signs.{left->, lin, right_0, right->, swapped, times-++, times---, times_neg, times->>, zero_right}
 use Rattle.plane.proofs.Symbols.{aheadˢ, areaˢ, aˢ, bˢ, cˢ, detˢ, pˢ, spot_atˢ, variables}
 
 -- p is the point a

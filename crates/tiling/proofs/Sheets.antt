@@ -1,5 +1,5 @@
 -- A subdivision in order with its loops cut: its triangles count no point twice, and cover the sheet.
-use Rattle.std.proofs.Common.{◌≡◌, ℕ, zero, suc, ◌+◌, ◌-◌, ◌%◌, ◌<◌, ◌≤◌, ◌⊎◌, List, [], ◌∷◌, ◌++◌, length, get_or, ℤ, pos, ◌+ℤ◌, ◌*ℤ◌, ◌≤ℤ◌, ◌<ℤ◌, sym, refl, ap, ◌∙◌, subst, inl, inr, arith}
+use Rattle.std.proofs.Common.{◌≡◌, ℕ, zero, suc, ◌+◌, ◌-◌, ◌%◌, ◌<◌, ◌≤◌, ◌⊎◌, List, [], ◌∷◌, length, get_or, ℤ, pos, ◌+ℤ◌, ◌*ℤ◌, ◌≤ℤ◌, ◌<ℤ◌, sym, refl, ap, ◌∙◌, subst, inl, inr, arith}
 use Rattle.std.specs.List.{flat_map}
 use Rattle.std.proofs.lemmas.Bool.{cases_eq}
 use Rattle.plane.specs.declared.Edge.{Edge}
@@ -13,7 +13,7 @@ use Rattle.tiling.specs.Order.{InOrder, Triangulated, loop_of}
 use Rattle.tiling.specs.Triangles.{AllLeftward, Triangle, around, sides, turns}
 use Rattle.tiling.proofs.Borders.{Within, frame, frame_left, frame_low, left_frame}
 use Rattle.tiling.proofs.Covering.{NotRight, covers, crossing_odd, turns_low}
-use Rattle.tiling.proofs.Cuts.{cut_sides, cut_sum, kept}
+use Rattle.tiling.proofs.Cuts.{cut_sum, kept}
 use Rattle.tiling.proofs.Lists.{in_joined, in_left, in_right, in_split, joined_in, sum-++, sum_has, sum_joined, sum_low, sum_two}
 use Rattle.tiling.proofs.Overlaps.{Tiles}
 use Rattle.tiling.proofs.Pairs.{paired_sum}

@@ -1,24 +1,23 @@
 -- A triangle of a cut that holds a point tells the cell that holds it.
-use Rattle.std.proofs.Common.{◌≡◌, ℕ, ◌<◌, Bool, true, false, cond, ◌⊎◌, List, [], length, ℤ, pos, ◌+ℤ◌, ◌≤ℤ◌, ◌<ℤ◌, sym, refl, ap, ◌∙◌, subst, inl, inr}
+use Rattle.std.proofs.Common.{◌≡◌, ℕ, ◌<◌, Bool, true, false, cond, ◌⊎◌, List, [], length, ℤ, pos, ◌≤ℤ◌, ◌<ℤ◌, sym, refl, ap, ◌∙◌, subst, inl, inr}
 use Rattle.std.proofs.lemmas.Int.{by_lt_z}
-use Rattle.std.proofs.lemmas.Bool.{both_ways, cases_Bool}
+use Rattle.std.proofs.lemmas.Bool.{both_ways}
 use Rattle.plane.specs.declared.Edge.{Edge}
 use Rattle.plane.specs.Crossings.{crossing_sum}
 use Rattle.plane.specs.Edges.{In, back, edge}
-use Rattle.plane.specs.Points.{Spot, area}
+use Rattle.plane.specs.Points.{Spot}
 use Rattle.plane.proofs.Signs.{lin}
 use Rattle.tiling.specs.Cells.{Cell, Subdivision, cell_holds, drawn, face, listed, outside, vertex}
 use Rattle.tiling.specs.Lemmas.{SideOf}
 use Rattle.tiling.specs.Order.{InOrder, Triangulated, loop_of}
-use Rattle.tiling.specs.Theorems.{edge_named, told, told_by}
-use Rattle.tiling.specs.Triangles.{Leftward, Triangle, side_at, sides, turns}
+use Rattle.tiling.specs.Theorems.{edge_named, told_by}
+use Rattle.tiling.specs.Triangles.{Leftward, Triangle, side_at, sides}
 use Rattle.tiling.proofs.Covering.{Left, NotRight, inside_counts, turns_bit}
 use Rattle.tiling.proofs.Cuts.{cut_sides}
 use Rattle.tiling.proofs.Holding.{Clear, Drawn, above_int_same, drawn_true, edge_held, face_held, on_back, int_same_of_same, true_drawn, vertex_held}
 use Rattle.tiling.proofs.Lists.{in_left}
 use Rattle.tiling.proofs.Overlaps.{InEdge, OnEdge, Tiles, between_only, inside_only, only_side, share, side_held, side_on}
-use Rattle.tiling.proofs.Rings.{ring_from}
-use Rattle.tiling.proofs.Segments.{Between, between_back, common_corner, in_side}
+use Rattle.tiling.proofs.Segments.{between_back, common_corner, in_side}
 use Rattle.tiling.proofs.Sheets.{all, all_of, in_get_or, inner, listed_inner, loop_counts, loop_inner, owner, tiles}
 use Rattle.tiling.proofs.Turning.{Seen, every, seen_ab, seen_bc, seen_ca}
 

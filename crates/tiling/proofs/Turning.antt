@@ -1,5 +1,5 @@
 -- A triangle may be begun at any of its corners; so one argument, on its first side, serves all three.
-use Rattle.std.proofs.Common.{◌≡◌, ℕ, ◌⊎◌, List, [], ◌∷◌, ℤ, pos, ◌+ℤ◌, ◌<ℤ◌, sym, refl, ◌∙◌, subst, inl, inr}
+use Rattle.std.proofs.Common.{◌≡◌, ℕ, ◌⊎◌, ℤ, pos, ◌+ℤ◌, ◌<ℤ◌, sym, refl, ◌∙◌, subst, inl, inr}
 use Rattle.plane.specs.declared.Edge.{Edge}
 use Rattle.plane.specs.Edges.{In, edge}
 use Rattle.plane.specs.Points.{GridPoint, area}

@@ -5,7 +5,7 @@ use Rattle.plane.specs.declared.Edge.{Edge}
 use Rattle.plane.specs.Crossings.{crossing_sum}
 use Rattle.plane.specs.Edges.{In, back, edge}
 use Rattle.plane.specs.Points.{GridPoint, Spot, ahead, along, det, spot_at}
-use Rattle.plane.proofs.Ring.{lit, var, ◌⊕◌, ◌⊖◌, ◌⊗◌, ring, same?}
+use Rattle.plane.proofs.Ring.{var, ◌⊕◌, ◌⊖◌, ◌⊗◌, ring, same?}
 use Rattle.plane.proofs.Signs.{lin, right_0, times-++, times->>, zero_right}
 use Rattle.plane.proofs.Symbols.{GridPointˢ, aheadˢ, alongˢ, aˢ, bˢ, cˢ, detˢ, gˢ, pˢ, spot_atˢ, variables}
 use Rattle.tiling.specs.Cells.{Cell, Subdivision, cell_holds, face, listed, open_edge, outside, vertex}

@@ -1,10 +1,9 @@
 -- The lemmas below the theorems, each over any places and any numbers of vertices.
-use Rattle.std.specs.Prelude.{◌≡◌, ℕ, true, eqb, ◌⊎◌, List, [], ◌∷◌, ◌++◌, ℤ, pos, ◌+ℤ◌, ◌*ℤ◌, neg_ℤ, ◌≤ℤ◌, ◌<ℤ◌}
+use Rattle.std.specs.Prelude.{◌≡◌, ℕ, true, ◌⊎◌, List, [], ◌∷◌, ℤ, pos, ◌+ℤ◌, ◌*ℤ◌, neg_ℤ, ◌<ℤ◌}
 use Rattle.plane.specs.declared.Edge.{Edge}
 use Rattle.plane.specs.Crossings.{crossing_sum}
-use Rattle.plane.specs.Edges.{In, Once, back, edge, ring_edges, sum}
-use Rattle.plane.specs.Points.{GridPoint, Spot, area, between}
-use Rattle.tiling.specs.Cells.{Subdivision}
+use Rattle.plane.specs.Edges.{In, Once, back, ring_edges, sum}
+use Rattle.plane.specs.Points.{GridPoint, Spot, between}
 use Rattle.tiling.specs.Cuts.{Cut}
 use Rattle.tiling.specs.Order.{grid}
 use Rattle.tiling.specs.Triangles.{Leftward, Triangle, around, fan, side_at, sides, triangle, turns}

@@ -1,6 +1,5 @@
 -- What is asked of a subdivision and of its triangles.
-use Rattle.std.specs.Prelude.{◌≡◌, ℕ, ◌<◌, ◌≤◌, List, [], ◌++◌, length, ℤ, pos, ◌<ℤ◌, slice_index_or}
-use Rattle.std.specs.List.{flat_map}
+use Rattle.std.specs.Prelude.{◌≡◌, ℕ, ◌<◌, ◌≤◌, List, [], length, ℤ, pos, ◌<ℤ◌, slice_index_or}
 use Rattle.plane.specs.declared.Edge.{Edge}
 use Rattle.plane.specs.Edges.{In, Once, back}
 use Rattle.plane.specs.Points.{GridPoint}

@@ -1,4 +1,4 @@
-use Rattle.std.proofs.Common.{◌*ℤ◌, refl, w64, SFits}
+use Rattle.std.proofs.Common.{◌*ℤ◌, refl}
 use Rattle.std.proofs.lemmas.Int.{to_z-of_z}
 use Rattle.plane.proofs.Bounds.{abs_product_lt, fits_64}
 use Rattle.plane.proofs.determinant.product.Goals as goal
