@@ -3,7 +3,8 @@
     python3 tools/reference/play.py < script
 
 One command a line, one line of outcome for each; blank lines and lines that
-start with # print nothing. Files are lower-case hex.
+start with # print nothing. Files are lower-case hex. The program `turns` plays
+the commands from `load` to `short`, the program `tips` the others.
 
     load HEX               a turn; nothing after `load` is the empty file
     wipe                   a turn

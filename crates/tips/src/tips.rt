@@ -53,11 +53,12 @@ pub(crate) fn play_tip(rt: &HostRuntime, line: &str) -> anyhow::Result<()> {
     match words.next().unwrap_or("") {
         "whole" => tell::<WholeTip>(rt, &mut words),
         "rational" => tell::<RationalTip>(rt, &mut words),
-        _ => match words.next().unwrap_or("") {
+        "make" => match words.next().unwrap_or("") {
             "whole" => make::<WholeTip>(rt, &mut words),
             "rational" => make::<RationalTip>(rt, &mut words),
             _ => Ok(rt.println("no such kernel")?),
         },
+        _ => Ok(rt.println("unknown command")?),
     }
 }
 
