@@ -5,7 +5,7 @@ use Rattle.refusal.specs.declared.Layer.TheVariants.{File}
 use Rattle.refusal.specs.declared.Refusal.{Refusal}
 use Rattle.refusal.specs.Numbers.{refused}
 use Rattle.plane.specs.declared.Point.{Point}
-use Rattle.sheet.specs.declared.tables.Edge.{Edge}
+use Rattle.plane.specs.declared.Edge.{Edge}
 use Rattle.sheet.specs.declared.tables.Loop.{Loop}
 use Rattle.sheet.specs.declared.tables.Size.{Size}
 use Rattle.sheet.specs.Load.{roomy, sheet_of}

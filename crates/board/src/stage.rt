@@ -3,7 +3,7 @@ ghost use Rattle.std.specs.Prelude.{◌≡◌};
 use sheet::Size;
 
 /// How far a sheet has come.
-#[derive(Clone, Copy)]
+#[derive(Clone, Copy, PartialEq, Eq, Debug)]
 pub enum Stage {
     /// Empty, or loaded from a file.
     Draft,
@@ -16,7 +16,8 @@ pub enum Stage {
 }
 
 /// One sheet at its stage, as plain numbers; an empty Draft has width 0.
-#[derive(Clone, Copy)]
+// No `Option` tells that a Draft is empty: no file has width 0, so there is no second flag that could disagree.
+#[derive(Clone, Copy, PartialEq, Eq, Debug)]
 pub struct Board {
     pub(crate) stage: Stage,
     pub(crate) size: Size,

@@ -7,9 +7,9 @@ ghost use Rattle.board.specs.Turns.{bare, load_board, load_room, loads};
 use crate::stage::{Board, Stage};
 use lent::LentList;
 use nodes::WriteStore;
-use plane::Point;
+use plane::{Edge, Point};
 use refusal::{Cause, Layer, Refusal};
-use sheet::{Edge, Loop, Size};
+use sheet::{Loop, Size};
 
 // Whether the tables that a load is lent have room for every sheet.
 fn have_room(points: &[Point], edges: &[Edge], loops: &[Loop], live: &[u16]) -> bool
@@ -23,16 +23,9 @@ impl Board {
     pub fn new() -> Board
         ensures { result ≡ bare }
     {
-        let size = Size {
-            width: 0,
-            height: 0,
-            inner: 0,
-            loops: 0,
-            corners: 0,
-        };
         Board {
             stage: Stage::Draft,
-            size,
+            size: Size::default(),
             live: 0,
         }
     }

@@ -5,10 +5,11 @@ use Rattle.refusal.specs.declared.Cause.TheVariants.{BadNumber}
 use Rattle.reader.specs.Number.{number}
 use Rattle.reader.specs.Reading.{fault}
 use Rattle.sheet.specs.declared.answer.Answer.TheVariants.{Vertex, OpenEdge, Face}
-use Rattle.sheet.specs.declared.tables.Edge.{Edge}
+use Rattle.plane.specs.declared.Edge.{Edge}
 use Rattle.sheet.specs.declared.tables.Loop.{Loop}
 use Rattle.sheet.specs.Files.{contents}
-use Rattle.sheet.specs.Sheets.{Ring, Sheet, edge, edges_of, loop_at, loops_of, point, points_of}
+use Rattle.plane.specs.Edges.{edge}
+use Rattle.sheet.specs.Sheets.{Ring, Sheet, edges_of, loop_at, loops_of, point, points_of}
 use Rattle.sheet.specs.Wordings.{wording_said}
 
 -- a spring in the middle of a sheet of 12 by 10, with its file

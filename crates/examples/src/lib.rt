@@ -4,11 +4,9 @@
 ghost use Rattle.examples.specs.Spring.{Examples};
 
 /// The worked examples of reading follow from the definitions.
-pub fn examples_stand() -> u8
+pub fn examples_stand()
     ensures { Examples }
-{
-    0
-}
+{}
 
 #[cfg(test)]
 mod tests;

@@ -1,9 +1,9 @@
 use board::Board;
 use nodes::{Node, ReadStore, SliceStore, WriteStore};
-use plane::Point;
+use plane::{Edge, Point};
 use reader::Reader;
 use refusal::{Cause, Layer, Refusal};
-use sheet::{Answer, Edge, Loop, wording};
+use sheet::{Answer, Loop, wording};
 use std::process::Abort;
 use std::test::Fail;
 
@@ -53,26 +53,6 @@ const EDGES: [(u16, u16); 24] = [
 
 const LOOPS: [(u16, u16, u16); 5] = [(14, 0, 4), (0, 4, 4), (0, 8, 4), (0, 12, 4), (0, 16, 4)];
 
-const NO_POINT: Point = Point { x: 0, y: 0 };
-
-const NO_EDGE: Edge = Edge { from: 0, to: 0 };
-
-const NO_NODE: Node = Node {
-    a: 0,
-    b: 0,
-    c: 0,
-    ring: 0,
-    sides: 0,
-    count: 0,
-    children: [0; 8],
-};
-
-const NO_LOOP: Loop = Loop {
-    numeral: 0,
-    start: 0,
-    corners: 0,
-};
-
 fn expect(rt: &impl Abort, refusal: Refusal, number: u8, place: usize) {
     assert_eq!(rt; refusal.cause.number(), number);
     assert_eq!(rt; refusal.layer.number(), 1);
@@ -102,9 +82,9 @@ fn a_refusal_says_what_to_mend(rt: HostRuntime) -> Result<(), Fail> {
 
 #[test]
 fn tables_hold_the_spring_sheet(rt: HostRuntime) -> Result<(), Fail> {
-    let mut points = [NO_POINT; 1028];
-    let mut edges = [NO_EDGE; 6154];
-    let mut loops = [NO_LOOP; 2050];
+    let mut points = [Point::default(); 1028];
+    let mut edges = [Edge::default(); 6154];
+    let mut loops = [Loop::default(); 2050];
     let mut live = [0; 2050];
     let mut board = Board::new();
     let Ok(()) = board.load(&SPRING, &mut points, &mut edges, &mut loops, &mut live) else {
@@ -126,9 +106,9 @@ fn tables_hold_the_spring_sheet(rt: HostRuntime) -> Result<(), Fail> {
 
 #[test]
 fn short_tables_come_before_a_bad_file(rt: HostRuntime) -> Result<(), Fail> {
-    let mut points = [NO_POINT; 1027];
-    let mut edges = [NO_EDGE; 6154];
-    let mut loops = [NO_LOOP; 2050];
+    let mut points = [Point::default(); 1027];
+    let mut edges = [Edge::default(); 6154];
+    let mut loops = [Loop::default(); 2050];
     let mut live = [0; 2050];
     let mut board = Board::new();
     let Err(refusal) = board.load(&[9], &mut points, &mut edges, &mut loops, &mut live) else {
@@ -140,9 +120,9 @@ fn short_tables_come_before_a_bad_file(rt: HostRuntime) -> Result<(), Fail> {
 
 #[test]
 fn wipe_empties_the_store(rt: HostRuntime) {
-    let mut slots = [NO_NODE; 2];
+    let mut slots = [Node::default(); 2];
     let mut store = SliceStore::new(&mut slots);
-    let _ = store.add(NO_NODE);
+    let _ = store.add(Node::default());
     assert_eq!(rt; store.count(), 1);
     let mut board = Board::new();
     board.wipe(&mut store);

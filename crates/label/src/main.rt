@@ -1,11 +1,13 @@
 //! Reads a sheet file and prints its size, its counts and its parts list.
 #![tactic(auto)]
 
+mod failure;
 mod parts;
 
 use anyhow::anyhow;
-use parts::Parts;
-use refusal::Refusal;
+use desk::{Desk, LEAST};
+use failure::Failure;
+use parts::print_parts;
 use std::io::Read;
 use std::process::ExitCode;
 use std::{env, fs};
@@ -21,32 +23,33 @@ fn read_file(rt: &HostRuntime, path: &str) -> anyhow::Result<Vec<u8>> {
     Ok(bytes)
 }
 
-// Prints the parts list of the sheet that the first argument names, or answers why the sheet is refused.
-fn run(rt: &HostRuntime) -> anyhow::Result<Option<Refusal>> {
+// The bytes of the file that the first argument names.
+fn read_argument(rt: &HostRuntime) -> anyhow::Result<Vec<u8>> {
     let mut args = env::args(rt)?;
     let _ = args.next();
     let (Some(path), None) = (args.next(), args.next()) else {
         return Err(anyhow!("one sheet file is wanted: label SHEET"));
     };
-    let file = match read_file(rt, path.as_str()) {
-        Ok(file) => file,
-        Err(e) => return Err(anyhow!(format!(in rt.alloc(); "{path}: {e}")?)),
-    };
-    let mut parts = Parts::new(rt.alloc())?;
-    if let Err(refusal) = parts.load(file.as_slice()) {
-        return Ok(Some(refusal));
+    match read_file(rt, path.as_str()) {
+        Ok(file) => Ok(file),
+        Err(e) => Err(anyhow!(format!(in rt.alloc(); "{path}: {e}")?)),
     }
-    parts.print(rt, file.as_slice())?;
-    Ok(None)
 }
 
-// A refusal and an error are told in one line each. They end the program with status 1, and not with an `Err`, which would be
-// printed once more.
+// Prints the parts list of the sheet.
+fn run(rt: &HostRuntime) -> Result<(), Failure> {
+    let file = read_argument(rt)?;
+    let mut desk = Desk::new(rt.alloc(), LEAST)?;
+    desk.load(file.as_slice())?;
+    print_parts(rt, &desk, file.as_slice())?;
+    Ok(())
+}
+
+// A failure is told in one line. It ends the program with status 1, and not with an `Err`, which would be printed once more.
 fn main(rt: HostRuntime) -> anyhow::Result<ExitCode> {
-    match run(&rt) {
-        Ok(None) => return Ok(ExitCode::SUCCESS),
-        Ok(Some(refusal)) => eprintln!(rt; "label: {refusal}")?,
-        Err(e) => eprintln!(rt; "label: {e}")?,
-    }
+    let Err(failure) = run(&rt) else {
+        return Ok(ExitCode::SUCCESS);
+    };
+    eprintln!(rt; "label: {failure}")?;
     Ok(ExitCode::FAILURE)
 }

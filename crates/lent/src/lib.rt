@@ -1,12 +1,14 @@
 //! A list over a slice that the caller lends: its elements are the first of the slice, and it never allocates.
 #![tactic(auto)]
 
-ghost use Rattle.std.specs.Prelude.{◌≡◌};
+ghost use Rattle.std.specs.Prelude.{◌≡◌, take};
 ghost use Rattle.lent.specs.Kept.{append_said, count_of, kept, kept_in, none, put, read_said};
 
 use refusal::Cause;
 
 /// A list of the first `count` elements of a lent slice.
+// A count beside a slice, and no `Vec`: the memory is the caller's. That a list stays over its slice is a clause of each call: which
+// loan a reference is of is no part of a value, so no invariant can say it.
 #[derive(Drop)]
 pub struct LentList<'a, T> {
     items: &'a mut [T],
@@ -47,7 +49,10 @@ impl<'a, T: Copy> LentList<'a, T> {
     pub fn read(&self, k: usize) -> Result<T, Cause>
         ensures { result ≡ read_said (kept_in self.now) k }
     {
-        read_front(self.items, self.count, k)
+        front(self.items, self.count)
+            .get(k)
+            .copied()
+            .ok_or(Cause::OutOfRange)
     }
 
     /// Takes every element out; the slice stays as it is.
@@ -59,12 +64,9 @@ impl<'a, T: Copy> LentList<'a, T> {
     }
 }
 
-// The element at position `k` of the first `count` of a slice.
-fn read_front<T: Copy>(items: &[T], count: usize, k: usize) -> Result<T, Cause>
-    ensures { result ≡ read_said (kept items.now count) k }
+// The first `count` elements of a slice, or all where there are fewer.
+fn front<T>(items: &[T], count: usize) -> &[T]
+    ensures { result.now ≡ take count items.now }
 {
-    if k >= count || k >= items.len() {
-        return Err(Cause::OutOfRange);
-    }
-    Ok(items[k])
+    &items[..count.min(items.len())]
 }

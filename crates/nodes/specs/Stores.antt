@@ -1,20 +1,38 @@
--- The nodes that each store holds, and how many it has room for.
-use Rattle.std.specs.Prelude.{ℕ, min, List, length, take}
-use Rattle.nodes.specs.declared.block_store.BlockStore.{BlockStore}
+-- The nodes that a store over lent memory holds, and what the two kinds of memory have.
+use Rattle.std.specs.Prelude.{◌≡◌, ◌≢◌, ℕ, List, length, take, slice_index_or}
+use Rattle.std.specs.Borrow.{MutBor}
+use Rattle.nodes.specs.declared.lent_store.LentStore.{LentStore}
 use Rattle.nodes.specs.declared.node.Node.{Node}
-use Rattle.nodes.specs.declared.slice_store.SliceStore.{SliceStore}
 use Rattle.nodes.specs.Bytes.{nodes_in, room_of}
+use Rattle.nodes.specs.Nodes.{blank}
 
--- `take` stops at the last slot, so the count may say anything
-abbrev pub slice_nodes : SliceStore → List Node
-slice_nodes s = take s.used s.slots.now
+-- what a store keeps its nodes in
+abbrev pub memory_of : {M : Type 0} → LentStore M → M
+memory_of s = s.memory
 
-abbrev pub slice_room : SliceStore → ℕ
-slice_room s = length s.slots.now
+-- `take` stops at the last place, so the count may say anything
+abbrev pub stored : {M : Type 0} → (M → List Node) → LentStore M → List Node
+stored nodes s = take s.used (nodes (memory_of s))
 
-abbrev pub block_room : BlockStore → ℕ
-block_room s = room_of s.bytes.now
+-- a `SliceStore` and a `BlockStore`, since antt has no name for an alias
+abbrev pub Slices : Type 0
+Slices = LentStore (MutBor (List Node))
 
--- here the count may pass the room, so the lesser of the two is meant
-abbrev pub block_nodes : BlockStore → List Node
-block_nodes s = nodes_in s.bytes.now (min s.used (block_room s))
+abbrev pub Blocks : Type 0
+Blocks = LentStore (MutBor (List ℕ))
+
+abbrev pub slice_nodes : Slices → List Node
+slice_nodes = stored (λ slots. slots.now)
+
+abbrev pub slice_room : Slices → ℕ
+slice_room s = length (memory_of s).now
+
+-- every slot but k is as it was
+abbrev pub SlotsKeptBut : ℕ → List Node → List Node → Type 0
+SlotsKeptBut k old new = (j : ℕ) → j ≢ k → slice_index_or new j blank ≡ slice_index_or old j blank
+
+abbrev pub block_nodes : Blocks → List Node
+block_nodes = stored (λ bytes. nodes_in bytes.now (room_of bytes.now))
+
+abbrev pub block_room : Blocks → ℕ
+block_room s = room_of (memory_of s).now

@@ -2,6 +2,8 @@
 #![tactic(auto)]
 
 mod block_store;
+mod lent_store;
+mod memory;
 mod node;
 mod slice_store;
 mod store;

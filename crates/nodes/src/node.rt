@@ -2,7 +2,8 @@ ghost use Rattle.std.specs.Prelude.{◌≡◌, slice_index};
 ghost use Rattle.nodes.specs.Nodes.{numbers};
 
 /// A triangle of the hierarchy: its corners, its loop, which of its sides are edges of the sheet, and its children.
-#[derive(Clone, Copy, PartialEq, Eq, Debug)]
+// Fourteen numbers, as a store keeps them: so a count beside eight children, and sides in one number.
+#[derive(Clone, Copy, PartialEq, Eq, Default, Debug)]
 pub struct Node {
     /// The first corner's vertex.
     pub a: u16,

@@ -1,22 +1,13 @@
--- How large products can be.
-use Rattle.std.proofs.Common.{◌≡◌, ℕ, zero, suc, ◌-◌, ◌*◌, ◌^◌, ◌<◌, ◌≤◌, ℤ, pos, negsuc, ◌*ℤ◌, neg_ℤ, nat_abs, refl, mul-le-mul, arith, w64, SFits}
-use borrow.Author.Differences.{ints}
+-- What 64 bits hold of a product.
+use Rattle.std.proofs.Common.{◌≡◌, ◌^◌, ◌<◌, ℤ, ◌*ℤ◌, unsigned_abs, FitsSigned, to_z, of_z, w64, arith}
+use Rattle.std.proofs.lemmas.Int.{fits_signed_mul, to_z-of_z, unsigned_abs-mul}
 
-abs_neg : (n : ℕ) → nat_abs (neg_ℤ (pos n)) ≡ n
-abs_neg zero = refl
-abs_neg (suc n) = refl
+-- the product of numbers whose absolute values are below 2^16 and 2^36 is stored as it is
+pub product_stored : (u v : ℤ) → FitsSigned w64 u → FitsSigned w64 v → unsigned_abs u < 2 ^ 16 → unsigned_abs v < 2 ^ 36
+    → to_z w64 (of_z w64 (to_z w64 (of_z w64 u) *ℤ to_z w64 (of_z w64 v))) ≡ u *ℤ v
+product_stored u v f g p q =
+    let h : FitsSigned w64 (u *ℤ v) = fits_signed_mul w64 u v (2 ^ 16) (2 ^ 36) (omega arith) (omega arith) (omega arith) in
+    simp to_z-of_z
 
-abs_mul : (a b : ℤ) → nat_abs (a *ℤ b) ≡ nat_abs a * nat_abs b
-abs_mul (pos a) (pos b) = refl
-abs_mul (pos a) (negsuc b) = abs_neg (a * suc b)
-abs_mul (negsuc a) (pos b) = abs_neg (suc a * b)
-abs_mul (negsuc a) (negsuc b) = refl
-
-pub product_lt : (k m n l : ℕ) → m < 2 ^ k → n < 2 ^ l → m * n ≤ (2 ^ k - 1) * 2 ^ l
-product_lt k m n l p q = mul-le-mul {n₂ = 2 ^ k - 1} {m₂ = 2 ^ l} (omega arith) (omega arith)
-
-pub abs_product_lt : (u v : ℤ) → nat_abs u < 2 ^ 16 → nat_abs v < 2 ^ 36 → nat_abs (u *ℤ v) < 2 ^ 52
-abs_product_lt u v p q = let h = product_lt 16 (nat_abs u) (nat_abs v) 36 p q in omega (arith, abs_mul u v)
-
-pub fits_64 : (u : ℤ) → nat_abs u < 2 ^ 52 → SFits w64 u
-fits_64 u h = omega (arith, ints)
+-- so, and how large it is
+pub ruleset products = (product_stored, unsigned_abs-mul)

@@ -3,7 +3,7 @@
 -- Like terms are found by comparing sorted lists of variables. Soundness does not need that they are sorted.
 use Rattle.std.proofs.Common.{◌≡◌, ℕ, zero, suc, ◌*◌, Bool, true, false, cond, ◌&&◌, T, eqb, ltb, List, [], ◌∷◌, ℤ, pos, negsuc, ◌+ℤ◌, ◌-ℤ◌, ◌*ℤ◌, neg_ℤ, sym, refl, ap, ◌∙◌, ap₂, arith, eqb→eq}
 use borrow.Author.Differences.{ints, up, down, sum_is_lem, product_is}
-use lib.IntN.{zero-*ℤ, *ℤ-zero, +ℤ_idl, +ℤ_idr, +ℤ_assoc, *ℤ_comm}
+use lib.IntN.{one, *ℤ-one, zero-*ℤ, *ℤ-zero, +ℤ_idl, +ℤ_idr, +ℤ_assoc, *ℤ_comm}
 
 -- ---- expressions
 
@@ -142,9 +142,6 @@ regroups a b c d = associates a b (c *ℤ d) ∙ ap (λ x. a *ℤ x) (swaps b c 
 one_times : (a : ℤ) → pos 1 *ℤ a ≡ a
 one_times a = omega (arith, ints)
 
-times_one : (a : ℤ) → a *ℤ pos 1 ≡ a
-times_one a = *ℤ_comm a (pos 1) ∙ one_times a
-
 -- ---- soundness
 
 -- the value of a product of variables, and of a polynomial
@@ -234,9 +231,9 @@ module _ (xs : List ℤ) where
       negated x = omega (arith, ints)
 
   poly_value : (e : Expr) → total xs (poly e) ≡ eval xs e
-  unfolding poly total monomial
-  poly_value (var i) = +ℤ_idr (pos 1 *ℤ (value xs i *ℤ pos 1)) ∙ one_times (value xs i *ℤ pos 1) ∙ times_one (value xs i)
-  poly_value (lit z) = +ℤ_idr (z *ℤ pos 1) ∙ times_one z
+  unfolding poly total monomial one
+  poly_value (var i) = +ℤ_idr (pos 1 *ℤ (value xs i *ℤ pos 1)) ∙ one_times (value xs i *ℤ pos 1) ∙ *ℤ-one (value xs i)
+  poly_value (lit z) = +ℤ_idr (z *ℤ pos 1) ∙ *ℤ-one z
   poly_value (e ⊕ f) = add_value (poly e) (poly f) ∙ ap₂ ◌+ℤ◌ (poly_value e) (poly_value f)
   poly_value (e ⊖ f) = add_value (poly e) (times_term (negsuc 0) [] (poly f)) ∙ ap₂ ◌+ℤ◌ (poly_value e) (minus_value f (poly_value f))
   poly_value (e ⊗ f) = times_value (poly e) (poly f) ∙ ap₂ ◌*ℤ◌ (poly_value e) (poly_value f)

@@ -1,6 +1,7 @@
 -- The sign of a product, from the signs of its factors.
 use Rattle.std.proofs.Common.{◌≡◌, zero, suc, [], ◌∷◌, ℤ, pos, negsuc, ◌*ℤ◌, neg_ℤ, ◌≤ℤ◌, ◌<ℤ◌, arith}
 use borrow.Author.Differences.{ints}
+use lib.IntN.{*ℤ_comm}
 use Rattle.std.proofs.lemmas.Int.{by_lt_z}
 use Rattle.plane.proofs.Ring.{var, ◌⊗◌, minus, ring, same?}
 
@@ -12,8 +13,7 @@ unfolding same?
 neg_times a b = ring (a ∷ b ∷ []) (minus (var 0) ⊗ var 1) (minus (var 0 ⊗ var 1)) tt
 
 pub swapped : (a b : ℤ) → a *ℤ b ≡ b *ℤ a
-unfolding same?
-swapped a b = ring (a ∷ b ∷ []) (var 0 ⊗ var 1) (var 1 ⊗ var 0) tt
+swapped a b = *ℤ_comm a b
 
 pub times_neg : (a b : ℤ) → a *ℤ neg_ℤ b ≡ neg_ℤ (a *ℤ b)
 unfolding same?

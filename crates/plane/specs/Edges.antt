@@ -19,6 +19,10 @@ links (u ∷ v ∷ vs) = edge u v ∷ links (v ∷ vs)
 abbrev pub ring_edges : List ℕ → List Edge
 ring_edges cs = links (cs ++ take 1 cs)
 
+-- the edges of a sheet's border, seen from outside: they go round it clockwise
+abbrev pub outside : List Edge
+outside = edge 1 0 ∷ edge 2 1 ∷ edge 3 2 ∷ edge 0 3 ∷ []
+
 -- x is an element of the list
 abbrev pub In : {X : Type 0} → X → List X → Type 0
 In x [] = ⊥

@@ -1,16 +1,66 @@
 //! The determinant of two points and a tip, in 64 bits. Each step has a bound of its own, so that none can overflow.
 ghost use Rattle.std.specs.Prelude.{◌≡◌, ◌+◌, ◌*◌, ◌^◌, ◌<◌, pos, ◌-ℤ◌, ◌*ℤ◌, unsigned_abs};
-ghost use Rattle.plane.specs.Points.{det, grid_point, side_of};
+ghost use Rattle.plane.specs.Points.{Spot, det, grid_point, is_on_sheet, side_of};
 
 use crate::{Point, Side};
+use std::cmp::Ordering;
+use std::marker::Model;
+
+// The point (x/z, y/z), in numbers so small that 64 bits hold the determinant.
+#[derive(Clone, Copy)]
+pub(crate) struct SmallSpot {
+    pub(crate) x: u64,
+    pub(crate) y: u64,
+    pub(crate) z: u32,
+}
+
+impl Model for SmallSpot {
+    ghost Value = { Spot };
+
+    ghost view = { λ s. record { X = pos s.x; Y = pos s.y; Z = pos s.z } };
+
+    ghost invariant = { λ s. (s.x < 2 ^ 33) × ((s.y < 2 ^ 33) × (s.z < 2 ^ 20)) };
+
+    ghost inverse = { λ p. record {
+      x = unsigned_abs p.X;
+      y = unsigned_abs p.Y;
+      z = unsigned_abs p.Z;
+    } };
+}
+
+impl SmallSpot {
+    // On which side of the line from `a` to `b` the point is.
+    pub(crate) fn side(self, a: Point, b: Point) -> Side
+        ensures { result ≡ side_of (det (grid_point a) (grid_point b) self) }
+    {
+        sign_of(self.determinant(a, b))
+    }
+
+    // Whether the point is on the sheet from (0, 0) to (`width`, `height`).
+    pub(crate) fn on_sheet(self, width: u16, height: u16) -> bool
+        ensures { result ≡ is_on_sheet (pos width) (pos height) self }
+    {
+        self.x <= scaled(width, self.z) && self.y <= scaled(height, self.z)
+    }
+
+    // The determinant of `a`, `b` and the point.
+    #[tactic(auto, unfolding(crate::specs::Points::det))]
+    fn determinant(self, a: Point, b: Point) -> i64
+        ensures { result ≡ det (grid_point a) (grid_point b) self }
+    {
+        let across = product(step(a.x, b.x), offset(self.y, a.y, self.z));
+        let up = product(step(a.y, b.y), offset(self.x, a.x, self.z));
+        difference(across, up)
+    }
+}
 
 // a * z
-pub(crate) fn scaled(a: u16, z: u32) -> u64
+fn scaled(a: u16, z: u32) -> u64
     requires { z < 2 ^ 20 }
     ensures value { result ≡ a * z }
     ensures bound { result < 2 ^ 36 }
 {
-    a as u64 * z as u64
+    u64::from(a) * u64::from(z)
 }
 
 // v - a * z
@@ -19,8 +69,7 @@ fn offset(v: u64, a: u16, z: u32) -> i64
     ensures value { result ≡ pos v -ℤ pos a *ℤ pos z }
     ensures bound { unsigned_abs result < 2 ^ 36 }
 {
-    let w = scaled(a, z);
-    v as i64 - w as i64
+    v as i64 - scaled(a, z) as i64
 }
 
 // to - from
@@ -28,9 +77,10 @@ fn step(from: u16, to: u16) -> i64
     ensures value { result ≡ pos to -ℤ pos from }
     ensures bound { unsigned_abs result < 2 ^ 16 }
 {
-    to as i64 - from as i64
+    i64::from(to) - i64::from(from)
 }
 
+#[tactic(auto, using(crate::proofs::Bounds::products))]
 fn product(u: i64, v: i64) -> i64
     requires { (unsigned_abs u < 2 ^ 16) × (unsigned_abs v < 2 ^ 36) }
     ensures value { result ≡ u *ℤ v }
@@ -46,32 +96,12 @@ fn difference(u: i64, v: i64) -> i64
     u - v
 }
 
-// The determinant of `a`, `b` and the point (x/z, y/z).
-fn determinant(a: Point, b: Point, x: u64, y: u64, z: u32) -> i64
-    requires { (x < 2 ^ 33) × ((y < 2 ^ 33) × (z < 2 ^ 20)) }
-    ensures { result ≡ (pos b.x -ℤ pos a.x) *ℤ (pos y -ℤ pos a.y *ℤ pos z) -ℤ (pos b.y -ℤ pos a.y) *ℤ (pos x -ℤ pos a.x *ℤ pos z) }
-{
-    let across = product(step(a.x, b.x), offset(y, a.y, z));
-    let up = product(step(a.y, b.y), offset(x, a.x, z));
-    difference(across, up)
-}
-
-// On which side of the line from `a` to `b` the point (x/z, y/z) is.
-pub(crate) fn side_against(a: Point, b: Point, x: u64, y: u64, z: u32) -> Side
-    requires { (x < 2 ^ 33) × ((y < 2 ^ 33) × (z < 2 ^ 20)) }
-    ensures { result ≡ side_of (det (grid_point a) (grid_point b) (record { X = pos x; Y = pos y; Z = pos z })) }
-{
-    sign_of(determinant(a, b, x, y, z))
-}
-
 fn sign_of(d: i64) -> Side
     ensures { result ≡ side_of d }
 {
-    if d > 0 {
-        Side::Left
-    } else if d < 0 {
-        Side::Right
-    } else {
-        Side::On
+    match d.cmp(&0) {
+        Ordering::Less => Side::Right,
+        Ordering::Equal => Side::On,
+        Ordering::Greater => Side::Left,
     }
 }

@@ -3,6 +3,7 @@
 
 ghost use Rattle.std.specs.Prelude.{◌≡◌};
 ghost use Rattle.plane.specs.Identities.{Identities};
+ghost use Rattle.plane.specs.Kernels.{within_reach};
 ghost use Rattle.plane.specs.Points.{side_number};
 
 mod determinant;
@@ -15,14 +16,23 @@ pub use rational::RationalTip;
 pub use whole::WholeTip;
 
 /// A point of a sheet, with whole coordinates.
-#[derive(Clone, Copy, PartialEq, Eq, Debug)]
+#[derive(Clone, Copy, PartialEq, Eq, Debug, Default)]
 pub struct Point {
     pub x: u16,
     pub y: u16,
 }
 
+impl Point {
+    // Whether a tip can be made at the point.
+    pub(crate) fn is_within_reach(self) -> bool
+        ensures { result ≡ within_reach self }
+    {
+        self.x <= 8191 && self.y <= 8191
+    }
+}
+
 /// A directed edge, by its vertices.
-#[derive(Clone, Copy, PartialEq, Eq, Debug)]
+#[derive(Clone, Copy, PartialEq, Eq, Debug, Default)]
 pub struct Edge {
     pub from: u16,
     pub to: u16,
@@ -41,7 +51,15 @@ impl Side {
     pub fn number(self) -> i8
         ensures { result ≡ side_number self }
     {
-        match self {
+        i8::from(self)
+    }
+}
+
+impl From<Side> for i8 {
+    ghost from_gives = { λ s r. r ≡ side_number s };
+
+    fn from(side: Side) -> i8 {
+        match side {
             Side::Right => -1,
             Side::On => 0,
             Side::Left => 1,
@@ -50,8 +68,22 @@ impl Side {
 }
 
 /// The identities of the determinant: turned round, summed, balanced, linear, and joined to heights and widths.
-pub fn identities_stand() -> u8
+#[tactic(auto, using(crate::proofs::Determinants::identities))]
+pub fn identities_stand()
     ensures { Identities }
-{
-    0
+{}
+
+#[cfg(test)]
+mod tests {
+    use super::*;
+    use std::test::Fail;
+
+    #[test]
+    fn prints_tips(rt: HostRuntime) -> Result<(), Fail> {
+        let whole = WholeTip { x: 3, y: 65_535 };
+        assert_eq!(rt; format!(in rt.alloc(); "{whole}")?.as_str(), "3 65535");
+        let rational = RationalTip { x: 7, y: 0, z: 2 };
+        assert_eq!(rt; format!(in rt.alloc(); "{rational}")?.as_str(), "7 0 2");
+        Ok(())
+    }
 }

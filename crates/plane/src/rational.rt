@@ -1,9 +1,11 @@
+ghost use Rattle.std.specs.Prelude.{◌≡◌};
 ghost use Rattle.plane.specs.Kernels.{rational_point};
 ghost use Rattle.std.proofs.Common.{rules};
 
-use crate::determinant::{scaled, side_against};
+use crate::determinant::SmallSpot;
 use crate::kernel::Kernel;
 use crate::{Point, Side};
+use std::fmt;
 
 /// A tip at the point (x/z, y/z).
 #[derive(Clone, Copy, PartialEq, Eq, Debug)]
@@ -11,6 +13,26 @@ pub struct RationalTip {
     pub x: u64,
     pub y: u64,
     pub z: u32,
+}
+
+impl RationalTip {
+    // The point that the tip means, where it is fit.
+    fn spot(self) -> Option<SmallSpot>
+        ensures { result ≡ rational_point self }
+    {
+        let RationalTip { x, y, z } = self;
+        if self.fit() {
+            Some(SmallSpot { x, y, z })
+        } else {
+            None
+        }
+    }
+}
+
+impl fmt::Display for RationalTip {
+    fn fmt<W: fmt::Write>(&self, f: &mut fmt::Formatter<W>) -> fmt::Result {
+        write!(f, "{} {} {}", self.x, self.y, self.z)
+    }
 }
 
 /// Rational tips: fit where z is 1 to 1,048,575, and x and y are at most 8,589,934,591.
@@ -24,26 +46,17 @@ impl Kernel for RationalTip {
     }
 
     fn side(&self, a: Point, b: Point) -> Side {
-        if !self.fit() {
-            return Side::On;
-        }
-        side_against(a, b, self.x, self.y, self.z)
+        self.spot().map_or(Side::On, |spot| spot.side(a, b))
     }
 
     fn on_sheet(&self, width: u16, height: u16) -> bool {
-        if !self.fit() {
-            return false;
-        }
-        self.x <= scaled(width, self.z) && self.y <= scaled(height, self.z)
+        self.spot().is_some_and(|spot| spot.on_sheet(width, height))
     }
 
     fn make(a: Point) -> Option<RationalTip> {
-        if a.x > 8191 || a.y > 8191 {
-            return None;
-        }
-        Some(RationalTip {
-            x: a.x as u64,
-            y: a.y as u64,
+        a.is_within_reach().then_some(RationalTip {
+            x: u64::from(a.x),
+            y: u64::from(a.y),
             z: 1,
         })
     }

@@ -1,15 +1,22 @@
 ghost use Rattle.plane.specs.Kernels.{whole_point};
 ghost use Rattle.std.proofs.Common.{rules};
 
-use crate::determinant::side_against;
+use crate::determinant::SmallSpot;
 use crate::kernel::Kernel;
 use crate::{Point, Side};
+use std::fmt;
 
 /// A tip at a whole point.
 #[derive(Clone, Copy, PartialEq, Eq, Debug)]
 pub struct WholeTip {
     pub x: u16,
     pub y: u16,
+}
+
+impl fmt::Display for WholeTip {
+    fn fmt<W: fmt::Write>(&self, f: &mut fmt::Formatter<W>) -> fmt::Result {
+        write!(f, "{} {}", self.x, self.y)
+    }
 }
 
 /// Whole tips, every one of which is fit.
@@ -23,7 +30,12 @@ impl Kernel for WholeTip {
     }
 
     fn side(&self, a: Point, b: Point) -> Side {
-        side_against(a, b, self.x as u64, self.y as u64, 1)
+        let spot = SmallSpot {
+            x: u64::from(self.x),
+            y: u64::from(self.y),
+            z: 1,
+        };
+        spot.side(a, b)
     }
 
     fn on_sheet(&self, width: u16, height: u16) -> bool {
@@ -31,9 +43,6 @@ impl Kernel for WholeTip {
     }
 
     fn make(a: Point) -> Option<WholeTip> {
-        if a.x > 8191 || a.y > 8191 {
-            return None;
-        }
-        Some(WholeTip { x: a.x, y: a.y })
+        a.is_within_reach().then_some(WholeTip { x: a.x, y: a.y })
     }
 }

@@ -1,4 +1,5 @@
 pub mod Reading
+pub mod Steps
 pub mod Number
 pub mod Kinds
 pub mod Spelled

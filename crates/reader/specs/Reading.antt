@@ -43,12 +43,6 @@ abbrev pub Stays : {X : Type 0} → Result X Refusal → ℕ → ℕ → Type 0
 Stays (Ok x) at at' = Unit {0}
 Stays (Err e) at at' = at' ≡ at
 
--- a step of a reader: the answer and the place are those of the reading, the file stays, and so does the place where it is refused
-pub record Walked {X : Type 0} (want : List ℕ → ℕ → Read X) (r : Result X Refusal) (file : List ℕ) (at : ℕ) (file' : List ℕ) (at' : ℕ) : Type 0 where
-  pub value : placed r at' ≡ want file at
-  pub same : file' ≡ file
-  pub stays : Stays r at at'
-
 -- how an answer tells what was to be read: the reader has come to the place behind it, and the answer has to do with it as P says
 abbrev pub Reads : {X Y : Type 0} → Result Y Refusal → Read X → ℕ → (X → Y → Type 0) → Type 0
 Reads {X} (Ok y) want at P = (x : X) × (want ≡ Ok (x, at)) × P x y

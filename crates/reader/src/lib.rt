@@ -1,9 +1,9 @@
 //! A reader of sheet files: it walks over the bytes, with a method for each kind of number and for a wording.
 #![tactic(auto)]
 
-ghost use Rattle.std.specs.Prelude.{◌≡◌, ◌+◌, ◌<◌, ◌≤◌, length as list_length, IfOk, OnOk};
-ghost use Rattle.reader.specs.Kinds.{ranged as ranged_of, edition as edition_of, extent as extent_of, count as count_of, vertex as vertex_of, numeral as numeral_of, corner_count_of, corner as corner_of, label_numeral_of, wording_length_of, wording as wording_of, part, finish as finish_of};
-ghost use Rattle.reader.specs.Reading.{ended, fault as fault_of, Stays, Walked};
+ghost use Rattle.std.specs.Prelude.{◌≡◌, ◌+◌, ◌<◌, ◌≤◌, length as list_length, IfOk, OnOk, not, position};
+ghost use Rattle.reader.specs.Kinds.{between, ranged as ranged_of, edition as edition_of, extent as extent_of, count as count_of, vertex as vertex_of, numeral as numeral_of, corner_count_of, corner as corner_of, label_numeral_of, wording_length_of, wording as wording_of, part, finish as finish_of};
+ghost use Rattle.reader.specs.Reading.{ended, fault as fault_of, Stays};
 ghost use Rattle.reader.specs.Number.{number as number_of};
 ghost use Rattle.reader.specs.Spelled.{Spelled};
 
@@ -54,6 +54,8 @@ fn number_at(file: &[u8], at: usize) -> Result<(u32, usize), Refusal>
 }
 
 impl<'a> Reader<'a> {
+    ghost use Rattle.reader.specs.Steps.{Walked};
+
     /// A reader that stands at the file's first byte.
     pub fn new(file: &'a [u8]) -> Reader<'a>
         ensures file { result.file.now ≡ file.now }
@@ -72,7 +74,7 @@ impl<'a> Reader<'a> {
 
     /// A number of one to three groups.
     pub fn number(&mut self) -> Result<u32, Refusal>
-        ensures read { Walked number_of result self.old.file.now self.old.at self.new.file.now self.new.at }
+        ensures read { Walked number_of result self.old self.new }
     {
         let (value, next) = number_at(self.file, self.at)?;
         self.at = next;
@@ -81,7 +83,7 @@ impl<'a> Reader<'a> {
 
     // a number in its range
     fn ranged(&mut self, low: u16, high: u16, cause: Cause) -> Result<u16, Refusal>
-        ensures read { Walked (ranged_of low high cause) result self.old.file.now self.old.at self.new.file.now self.new.at }
+        ensures read { Walked (ranged_of low high cause) result self.old self.new }
         ensures within { IfOk result (λ v. (low ≤ v) × (v ≤ high)) }
     {
         let (value, next) = number_at(self.file, self.at)?;
@@ -94,21 +96,21 @@ impl<'a> Reader<'a> {
 
     /// The file's edition.
     pub fn edition(&mut self) -> Result<u16, Refusal>
-        ensures read { Walked edition_of result self.old.file.now self.old.at self.new.file.now self.new.at }
+        ensures read { Walked edition_of result self.old self.new }
     {
         self.ranged(1, 1, Cause::BadEdition)
     }
 
     /// A width or a height.
     pub fn extent(&mut self) -> Result<u16, Refusal>
-        ensures read { Walked extent_of result self.old.file.now self.old.at self.new.file.now self.new.at }
+        ensures read { Walked extent_of result self.old self.new }
     {
         self.ranged(2, 8191, Cause::BadSize)
     }
 
     /// How many of a kind follow, up to a limit.
     pub fn count(&mut self, limit: u16) -> Result<u16, Refusal>
-        ensures read { Walked (count_of limit) result self.old.file.now self.old.at self.new.file.now self.new.at }
+        ensures read { Walked (count_of limit) result self.old self.new }
         ensures within { IfOk result (λ n. n ≤ limit) }
     {
         self.ranged(0, limit, Cause::OverLimit)
@@ -116,7 +118,7 @@ impl<'a> Reader<'a> {
 
     /// An inner vertex, strictly inside a sheet of the given size.
     pub fn vertex(&mut self, width: u16, height: u16) -> Result<Point, Refusal>
-        ensures read { Walked (vertex_of width height) result self.old.file.now self.old.at self.new.file.now self.new.at }
+        ensures read { Walked (vertex_of width height) result self.old self.new }
     {
         let (x, behind_x) = number_at(self.file, self.at)?;
         if x == 0 || x >= u32::from(width) {
@@ -135,14 +137,14 @@ impl<'a> Reader<'a> {
 
     /// The numeral of a loop.
     pub fn numeral(&mut self) -> Result<u16, Refusal>
-        ensures read { Walked numeral_of result self.old.file.now self.old.at self.new.file.now self.new.at }
+        ensures read { Walked numeral_of result self.old self.new }
     {
         self.ranged(0, 255, Cause::BadNumeral)
     }
 
     /// How many corners a loop has, on a sheet of so many vertices, where earlier loops have `before` corners in all.
     pub fn corner_count(&mut self, vertices: u16, before: u16) -> Result<u16, Refusal>
-        ensures read { Walked (corner_count_of vertices before) result self.old.file.now self.old.at self.new.file.now self.new.at }
+        ensures read { Walked (corner_count_of vertices before) result self.old self.new }
         ensures within { IfOk result (λ k. (3 ≤ k) × (before + k ≤ 6150)) }
     {
         let (k, next) = number_at(self.file, self.at)?;
@@ -158,7 +160,7 @@ impl<'a> Reader<'a> {
 
     /// A corner of a loop: the number of a vertex, of which there are so many.
     pub fn corner(&mut self, vertices: u16) -> Result<u16, Refusal>
-        ensures read { Walked (corner_of vertices) result self.old.file.now self.old.at self.new.file.now self.new.at }
+        ensures read { Walked (corner_of vertices) result self.old self.new }
     {
         let (v, next) = number_at(self.file, self.at)?;
         if v >= u32::from(vertices) {
@@ -170,7 +172,7 @@ impl<'a> Reader<'a> {
 
     /// The numeral of a label.
     pub fn label_numeral(&mut self) -> Result<u16, Refusal>
-        ensures read { Walked label_numeral_of result self.old.file.now self.old.at self.new.file.now self.new.at }
+        ensures read { Walked label_numeral_of result self.old self.new }
         ensures within { IfOk result (λ m. m ≤ 255) }
     {
         self.ranged(1, 255, Cause::BadNumeral)
@@ -178,7 +180,7 @@ impl<'a> Reader<'a> {
 
     /// How many bytes a wording has.
     pub fn wording_length(&mut self) -> Result<u16, Refusal>
-        ensures read { Walked wording_length_of result self.old.file.now self.old.at self.new.file.now self.new.at }
+        ensures read { Walked wording_length_of result self.old self.new }
     {
         self.ranged(1, 63, Cause::BadWording)
     }
@@ -208,27 +210,31 @@ impl<'a> Reader<'a> {
     }
 }
 
+// Where the first byte stands that no wording may have.
+fn first_unprintable(text: &[u8]) -> Option<usize>
+    ensures { result ≡ position (λ b. not (between 32 126 b)) text.now }
+{
+    text.iter().position(|b| *b < 32 || *b > 126)
+}
+
 // The place behind the bytes of a wording.
 fn wording_end(file: &[u8], at: usize, length: u16) -> Result<usize, Refusal>
     requires { at ≤ list_length file.now }
     ensures value { result ≡ wording_of file.now length at }
     ensures within { IfOk result (λ next. (next ≡ at + length) × (next ≤ list_length file.now)) }
 {
-    for i in 0..length as usize {
-        if i >= file.len() - at {
-            return Err(fault(Cause::FileEnds, file.len()));
-        }
-        let b = file[at + i];
-        if b < 32 || b > 126 {
-            return Err(fault(Cause::BadWording, at + i));
-        }
+    let rest = &file[at..];
+    let text = &rest[..rest.len().min(usize::from(length))];
+    if let Some(i) = first_unprintable(text) {
+        return Err(fault(Cause::BadWording, at + i));
     }
-    Ok(at + length as usize)
+    if text.len() < usize::from(length) {
+        return Err(fault(Cause::FileEnds, file.len()));
+    }
+    Ok(at + text.len())
 }
 
 /// A number is read exactly where it stands in its one spelling.
-pub fn spelling_stands() -> u8
+pub fn spelling_stands()
     ensures { Spelled }
-{
-    0
-}
+{}

@@ -4,6 +4,7 @@
 ghost use Rattle.std.specs.Prelude.{◌≡◌};
 ghost use Rattle.refusal.specs.Numbers.{number as number_of, layer as layer_of, refused};
 
+use std::error::Error;
 use std::fmt;
 
 /// What is wrong. Each case has one number, which `specs/Numbers.antt` gives.
@@ -90,17 +91,28 @@ pub struct Refusal {
     pub place: usize,
 }
 
+/// The number that stands for a cause wherever it is printed or kept.
+impl From<Cause> for u8 {
+    ghost from_gives = { λ cause n. n ≡ number_of cause };
+
+    fn from(cause: Cause) -> u8 {
+        cause as u8
+    }
+}
+
 impl Cause {
     /// The number that stands for the cause wherever it is printed or kept.
     pub fn number(self) -> u8
         ensures { result ≡ number_of self }
     {
-        self as u8
+        u8::from(self)
     }
+}
 
-    /// What to mend, in a plain sentence.
-    fn advice(self) -> &'static str {
-        match self {
+/// What to mend, in a plain sentence.
+impl fmt::Display for Cause {
+    fn fmt<W: fmt::Write>(&self, f: &mut fmt::Formatter<W>) -> fmt::Result {
+        f.write_str(match self {
             Cause::FileEnds => "the file stops too early; send it whole",
             Cause::BadNumber =>
                 "a number is not in its shortest form of one to three groups; write it anew",
@@ -137,7 +149,16 @@ impl Cause {
             Cause::OutOfRange => "a table or a store was altered; load the sheet again",
             Cause::NotThisStage =>
                 "the sheet is not at the stage for this; take the turns in order",
-        }
+        })
+    }
+}
+
+/// The number that stands for a layer wherever it is printed or kept.
+impl From<Layer> for u8 {
+    ghost from_gives = { λ layer n. n ≡ layer_of layer };
+
+    fn from(layer: Layer) -> u8 {
+        layer as u8
     }
 }
 
@@ -146,18 +167,20 @@ impl Layer {
     pub fn number(self) -> u8
         ensures { result ≡ layer_of self }
     {
-        self as u8
+        u8::from(self)
     }
+}
 
-    // what a person calls the layer
-    fn name(self) -> &'static str {
-        match self {
+/// What a person calls the layer.
+impl fmt::Display for Layer {
+    fn fmt<W: fmt::Write>(&self, f: &mut fmt::Formatter<W>) -> fmt::Result {
+        f.write_str(match self {
             Layer::File => "file",
             Layer::Check => "check",
             Layer::Build => "build",
             Layer::Place => "place",
             Layer::Store => "store",
-        }
+        })
     }
 }
 
@@ -178,12 +201,12 @@ impl fmt::Display for Refusal {
     fn fmt<W: fmt::Write>(&self, f: &mut fmt::Formatter<W>) -> fmt::Result {
         let number = self.cause.number();
         let layer = self.layer.number();
-        let name = self.layer.name();
-        let place = self.place;
-        let advice = self.cause.advice();
         write!(
             f,
-            "refusal {number}, layer {layer} ({name}), place {place}: {advice}"
+            "refusal {number}, layer {layer} ({}), place {}: {}",
+            self.layer, self.place, self.cause
         )
     }
 }
+
+impl Error for Refusal {}

@@ -1,38 +1,14 @@
--- A label, and all labels, read step by step: where each step stops, and where none does.
+-- The labels that were read so far, and all labels, read step by step.
 use Rattle.std.proofs.Common.{◌≡◌, ℕ, ◌<◌, Bool, true, false, cond, eqb, ◌≢◌, List, [], ◌∷◌, ◌++◌, length, get_or, set, replicate, Some, None, Ok, Err, Option, Result, sym, refl, ap, ◌∙◌, ⊎_elim, arith, eq-eqb, ne_eqb}
 use borrow.Author.Tests.{clash}
 use Rattle.std.proofs.lemmas.List.{get_or-replicate, get_or-set_same, get_or-set_other}
-use Rattle.std.proofs.lemmas.Bool.{cases_Bool, cases_eq, cond-true, cond-false}
-use Rattle.refusal.specs.declared.Cause.TheVariants.{BadNumeral}
+use Rattle.std.specs.Option.{option_eq}
+use Rattle.std.proofs.lemmas.Bool.{eqb-true, cases_Bool, cases_eq, cond-true, cond-false}
 use Rattle.refusal.specs.declared.Refusal.{Refusal}
 use Rattle.sheet.specs.declared.tables.Label.{Label}
-use Rattle.sheet.specs.Files.{find, label, labelled, labels, Marked}
+use Rattle.sheet.specs.Files.{find, find_wanted, label, labelled, labels, Marked}
 use Rattle.reader.specs.Kinds as kind
-use Rattle.reader.specs.Reading.{and_then, several, fault}
-
-module _ (file : List ℕ) (before : List Label) (at : ℕ) where
-  pub stops_numeral : (e : Refusal) → Err e ≡ kind.label_numeral_of file at → label file before at ≡ Err e
-  unfolding label
-  stops_numeral e h = rw (← h) refl
-
-  module _ (m at₁ : ℕ) (file₁ : List ℕ) (h₁ : Ok (m, at₁) ≡ kind.label_numeral_of file at) (f₁ : file₁ ≡ file) where
-    pub stops_twice : labelled m before ≡ true → label file before at ≡ Err (fault BadNumeral at)
-    unfolding label
-    stops_twice t = rw (← h₁, t) refl
-
-    pub stops_length : (e : Refusal) → labelled m before ≡ false → Err e ≡ kind.wording_length_of file₁ at₁ → label file before at ≡ Err e
-    unfolding label
-    stops_length e t h = rw (← h₁, t, ← f₁, ← h) refl
-
-    module _ (n at₂ : ℕ) (file₂ : List ℕ) (h₂ : Ok (n, at₂) ≡ kind.wording_length_of file₁ at₁) (f₂ : file₂ ≡ file₁) where
-      pub stops_wording : (e : Refusal) → labelled m before ≡ false → Err e ≡ kind.wording file₂ n at₂ → label file before at ≡ Err e
-      unfolding label
-      stops_wording e t h = rw (← h₁, t, ← f₁, ← h₂, ← f₂, ← h) refl
-
-      pub goes : (at₃ : ℕ) → labelled m before ≡ false → Ok at₃ ≡ kind.wording file₂ n at₂
-          → label file before at ≡ Ok (record { numeral = m; place = at₂; length = n }, at₃)
-      unfolding label
-      goes at₃ t h = rw (← h₁, t, ← f₁, ← h₂, ← f₂, ← h) refl
+use Rattle.reader.specs.Reading.{and_then, several}
 
 labelled_push : (m : ℕ) (ls : List Label) (l : Label) → labelled m (ls ++ l ∷ []) ≡ cond (labelled m ls) true (eqb m l.numeral)
 labelled_push m [] l = elim (eqb m l.numeral) as (λ b. cond b true false ≡ b) [ true ↦ refl | false ↦ refl ]
@@ -50,15 +26,27 @@ find_none m (k ∷ ls) h =
     h
 
 -- the labels so far: their numerals are marked, and the wanted one is found
-pub record Found (wanted : ℕ) (flags : List Bool) (found : Option Label) (ls : List Label) : Type 0 where
+pub record Found (wanted : Option ℕ) (flags : List Bool) (found : Option Label) (ls : List Label) : Type 0 where
   pub marked : Marked flags ls
-  pub finds : found ≡ find wanted ls
+  pub finds : found ≡ find_wanted wanted ls
 
-pub found_none : (wanted : ℕ) → Found wanted (replicate 256 false) None []
-found_none wanted = record { marked = λ m h. get_or-replicate 256 m false false h; finds = refl }
+pub found_none : (wanted : Option ℕ) → Found wanted (replicate 256 false) None []
+found_none wanted =
+    record {
+      marked = λ m h. get_or-replicate 256 m false false h;
+      finds = elim wanted as (λ w. None ≡ find_wanted w []) [ None ↦ refl | Some m ↦ refl ];
+    }
+
+-- what the test of a numeral against the wanted one says
+pub is_wanted : (w : Option ℕ) (n : ℕ) → true ≡ option_eq eqb w (Some n) → w ≡ Some n
+is_wanted None n e = absurd (clash (sym e))
+is_wanted (Some m) n e = ap Some (eqb-true m n (sym e))
+
+pub not_wanted : (w : Option ℕ) (n : ℕ) → false ≡ option_eq eqb w (Some n) → w ≢ Some n
+not_wanted w n e h = clash (e ∙ ap (λ w. option_eq eqb w (Some n)) h ∙ eq-eqb n n refl)
 
 -- one more, behind labels that lack its numeral
-module _ (wanted : ℕ) (flags : List Bool) (found : Option Label) (ls : List Label) (f : Found wanted flags found ls) (l : Label)
+module _ (wanted : Option ℕ) (flags : List Bool) (found : Option Label) (ls : List Label) (f : Found wanted flags found ls) (l : Label)
     (small : l.numeral < 256) (long : length flags ≡ 256) (fresh : get_or flags l.numeral false ≡ false) where
   new : labelled l.numeral ls ≡ false
   new = sym (f.marked l.numeral small) ∙ fresh
@@ -78,33 +66,25 @@ module _ (wanted : ℕ) (flags : List Bool) (found : Option Label) (ls : List La
       ∙ sym (p ∙ ap (λ b. cond (labelled m ls) true b) t ∙ elim (labelled m ls) as (λ b. cond b true false ≡ b) [ true ↦ refl | false ↦ refl ]))
       (cases_eq m l.numeral)
 
-  pub found_here : (flags' : List Bool) (found' : Option Label) → flags' ≡ set flags l.numeral true → l.numeral ≡ wanted → found' ≡ Some l → Found wanted flags' found' (ls ++ l ∷ [])
-  found_here flags' found' e h s =
-      record {
-        marked = rw e marks;
-        finds =
-            let t : eqb wanted l.numeral ≡ true = eq-eqb wanted l.numeral (sym h) in
-            let u : labelled wanted ls ≡ false = ap (λ m. labelled m ls) (sym h) ∙ new in
-            s ∙ sym (find_push wanted ls l ∙ cond-false _ _ _ u ∙ cond-true _ _ _ t);
-      }
+  found_same : (found' : Option Label) → found' ≡ Some l → found' ≡ find l.numeral (ls ++ l ∷ [])
+  found_same found' s = s ∙ sym (find_push l.numeral ls l ∙ cond-false _ _ _ new ∙ cond-true _ _ _ (eq-eqb l.numeral l.numeral refl))
 
-  pub found_other : (flags' : List Bool) → flags' ≡ set flags l.numeral true → l.numeral ≢ wanted → Found wanted flags' found (ls ++ l ∷ [])
-  found_other flags' e h =
-      record {
-        marked = rw e marks;
-        finds =
-            let t : eqb wanted l.numeral ≡ false = ne_eqb wanted l.numeral (λ q. h (sym q)) in
-            f.finds ∙ sym (find_push wanted ls l ∙ ap (λ o. cond (labelled wanted ls) (find wanted ls) o) (cond-false _ _ _ t) ∙ same wanted ls);
-      }
+  pub found_here : (flags' : List Bool) (found' : Option Label) → flags' ≡ set flags l.numeral true → wanted ≡ Some l.numeral → found' ≡ Some l → Found wanted flags' found' (ls ++ l ∷ [])
+  found_here flags' found' e h s = record { marked = rw e marks; finds = rw h (found_same found' s) }
+
+  pub found_other : (flags' : List Bool) → flags' ≡ set flags l.numeral true → wanted ≢ Some l.numeral → Found wanted flags' found (ls ++ l ∷ [])
+  found_other flags' e h = record { marked = rw e marks; finds = f.finds ∙ same wanted h }
     where
-      same : (m : ℕ) (ks : List Label) → cond (labelled m ks) (find m ks) None ≡ find m ks
-      same m ks = ⊎_elim (λ t. cond-true _ _ _ t) (λ t. cond-false _ _ _ t ∙ sym (find_none m ks t)) (cases_Bool (labelled m ks))
+      as_before : (m : ℕ) (ks : List Label) → cond (labelled m ks) (find m ks) None ≡ find m ks
+      as_before m ks = ⊎_elim (λ t. cond-true _ _ _ t) (λ t. cond-false _ _ _ t ∙ sym (find_none m ks t)) (cases_Bool (labelled m ks))
+
+      same : (w : Option ℕ) → w ≢ Some l.numeral → find_wanted w ls ≡ find_wanted w (ls ++ l ∷ [])
+      same None n = refl
+      same (Some m) n =
+          let t : eqb m l.numeral ≡ false = ne_eqb m l.numeral (λ q. n (ap Some q)) in
+          sym (find_push m ls l ∙ ap (λ o. cond (labelled m ls) (find m ls) o) (cond-false _ _ _ t) ∙ as_before m ls)
 
 module _ {Y : Type 0} (file : List ℕ) (at : ℕ) (go : List Label → Result Y Refusal) where
-  pub stops_count : (e : Refusal) → Err e ≡ kind.count 255 file at → and_then (labels file at) go ≡ Err e
-  unfolding labels
-  stops_count e h = rw (← h) refl
-
   module _ (n at₁ : ℕ) (file₁ : List ℕ) (h₁ : Ok (n, at₁) ≡ kind.count 255 file at) (f₁ : file₁ ≡ file) where
     pub stops_label : (e : Refusal) → several (label file₁) [] n at₁ ≡ Err e → and_then (labels file at) go ≡ Err e
     unfolding labels

@@ -3,11 +3,9 @@ pub mod Links
 pub mod Told
 pub mod Rings
 pub mod Looped
-pub mod Heads
 pub mod Wholes
 pub mod Labelling
 pub mod Loads
 pub mod Numerals
-pub mod Spoken
 pub mod Known
 pub mod Legals

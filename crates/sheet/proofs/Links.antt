@@ -3,8 +3,8 @@ use Rattle.std.proofs.Common.{◌≡◌, ℕ, ◌≤◌, List, [], ◌∷◌, �
 use Rattle.std.proofs.lemmas.List.{length_push, take-append-le}
 use Rattle.lent.specs.Kept.{Kept, put, puts}
 use Rattle.lent.proofs.Puts.{puts_next}
-use Rattle.sheet.specs.declared.tables.Edge.{Edge}
-use Rattle.sheet.specs.Sheets.{edge, links, ring_edges}
+use Rattle.plane.specs.declared.Edge.{Edge}
+use Rattle.plane.specs.Edges.{edge, links, ring_edges}
 
 links_push : (front : List ℕ) (u v : ℕ) → links ((front ++ u ∷ []) ++ v ∷ []) ≡ links (front ++ u ∷ []) ++ edge u v ∷ []
 links_push [] u v = refl

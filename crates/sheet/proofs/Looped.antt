@@ -4,17 +4,15 @@ use Rattle.std.specs.List.{flat_map}
 use Rattle.std.proofs.lemmas.List.{flat_map_more}
 use Rattle.lent.specs.Kept.{Kept, put, puts}
 use Rattle.lent.proofs.Puts.{puts_both, puts_next}
-use Rattle.sheet.specs.declared.tables.Edge.{Edge}
+use Rattle.plane.specs.declared.Edge.{Edge}
 use Rattle.sheet.specs.declared.tables.Loop.{Loop}
-use Rattle.sheet.specs.Sheets.{Ring, corners_in, entry, loops_from, ring_edges}
+use Rattle.plane.specs.Edges.{ring_edges}
+use Rattle.sheet.specs.Sheets.{Ring, corners_in, entry, loops_from}
 
 pub record Looped (start : ℕ) (e₀ e : Kept Edge) (l₀ l : Kept Loop) (done : List Ring) : Type 0 where
   pub starts : start ≡ corners_in done
   pub edges : e ≡ puts e₀ (flat_map (λ r. ring_edges r.corners) done)
   pub loops : l ≡ puts l₀ (loops_from 0 done)
-
-pub looped_none : (e : Kept Edge) (l : Kept Loop) → Looped 0 e e l l []
-looped_none e l = record { starts = refl; edges = refl; loops = refl }
 
 pub corners_push : (done : List Ring) (x : Ring) → corners_in (done ++ x ∷ []) ≡ corners_in done + length x.corners
 corners_push [] x = omega arith

@@ -36,7 +36,7 @@ module _ {X : Type 0} (read : List ℕ → List X → ℕ → Read X) where
       let e : n - 0 ≡ n = omega arith in
       record { done = before; counted = omega arith; same = rw e refl; file_same = refl; held = p }
 
-  module _ (file₀ : List ℕ) (before : List X) (n start i : ℕ) (file : List ℕ) (at : ℕ) (P : List X → Type 0) (s : Sofar file₀ before n start i file at P) where
+  module _ {file₀ : List ℕ} {before : List X} {n start i : ℕ} {file : List ℕ} {at : ℕ} {P : List X → Type 0} (s : Sofar file₀ before n start i file at P) where
     next : i < n → several (read file₀) before n start ≡ and_then (read file s.done at) (λ x. several (read file₀) (s.done ++ x.0 ∷ []) (n - (i + 1)) x.1)
     next h =
         let e : n - i - 1 ≡ n - (i + 1) = omega arith in

@@ -23,3 +23,7 @@ reads_known (Err f) want at P x at' e h = let z : ◌≡◌ {A = ℕ} 0 1 = cc (
 -- what a list held when it ended
 pub ends_as : {X : Type 0} (x y z : X) → y ≡ z → x ≡ y → x ≡ z
 ends_as x y z e f = f ∙ e
+
+-- an answer that is what was read
+pub told_ok : {X : Type 0} {x y : X} {want : Read X} {at : ℕ} → want ≡ Ok (x, at) → y ≡ x → Ok (y, at) ≡ want
+told_ok {at = at} e f = ap (λ z. Ok (z, at)) f ∙ sym e

@@ -9,15 +9,7 @@ use Rattle.reader.specs.Reading.{several}
 use Rattle.sheet.specs.Sheets.{Ring, corners_in, size_of, sizes}
 
 module _ (file : List ℕ) (at : ℕ) where
-  pub stops_head : (e : Refusal) → Err e ≡ head file at → sheet file at ≡ Err e
-  unfolding sheet
-  stops_head e h = rw (← h) refl
-
   module _ (x : Head) (at₁ : ℕ) (file₁ : List ℕ) (h₁ : Ok (x, at₁) ≡ head file at) (f₁ : file₁ ≡ file) where
-    pub stops_vertices : (e : Refusal) → several (λ _. kind.vertex x.width x.height file₁) [] x.inner at₁ ≡ Err e → sheet file at ≡ Err e
-    unfolding sheet
-    stops_vertices e h = rw (← h₁, ← f₁, h) refl
-
     module _ (vs : List Point) (at₂ : ℕ) (file₂ : List ℕ) (h₂ : several (λ _. kind.vertex x.width x.height file₁) [] x.inner at₁ ≡ Ok (vs, at₂)) (f₂ : file₂ ≡ file₁) where
       pub stops_count : (e : Refusal) → Err e ≡ kind.count 2050 file₂ at₂ → sheet file at ≡ Err e
       unfolding sheet

@@ -44,6 +44,11 @@ abbrev pub find : ℕ → List Label → Option Label
 find m [] = None
 find m (l ∷ ls) = cond (m == l.numeral) (Some l) (find m ls)
 
+-- the label that is wanted, if one is and if there is one
+abbrev pub find_wanted : Option ℕ → List Label → Option Label
+find_wanted None ls = None
+find_wanted (Some m) ls = find m ls
+
 -- a label, behind other labels: a numeral that none of them has, the length of the wording, and it
 unfoldable pub label : List ℕ → List Label → ℕ → Read Label
 label file before at =

@@ -4,7 +4,7 @@ use Rattle.plane.specs.declared.Point.{Point}
 use Rattle.refusal.specs.declared.Cause.TheVariants.{TableTooShort}
 use Rattle.refusal.specs.declared.Refusal.{Refusal}
 use Rattle.lent.specs.Kept.{over}
-use Rattle.sheet.specs.declared.tables.Edge.{Edge}
+use Rattle.plane.specs.declared.Edge.{Edge}
 use Rattle.sheet.specs.declared.tables.Loop.{Loop}
 use Rattle.sheet.specs.Files.{contents}
 use Rattle.reader.specs.Reading.{and_then, fault}

@@ -1,8 +1,9 @@
 -- A sheet as its file describes it, and what the caller's tables hold of it.
-use Rattle.std.specs.Prelude.{ℕ, ◌+◌, List, [], ◌∷◌, ◌++◌, length, take}
+use Rattle.std.specs.Prelude.{ℕ, ◌+◌, List, [], ◌∷◌, ◌++◌, length}
 use Rattle.std.specs.List.{flat_map}
 use Rattle.plane.specs.declared.Point.{Point}
-use Rattle.sheet.specs.declared.tables.Edge.{Edge}
+use Rattle.plane.specs.declared.Edge.{Edge}
+use Rattle.plane.specs.Edges.{outside, ring_edges}
 use Rattle.sheet.specs.declared.tables.Loop.{Loop}
 use Rattle.sheet.specs.declared.tables.Size.{Size}
 
@@ -21,29 +22,12 @@ pub record Sheet : Type 0 where
 abbrev pub point : ℕ → ℕ → Point
 point x y = record { x = x; y = y }
 
-abbrev pub edge : ℕ → ℕ → Edge
-edge u v = record { from = u; to = v }
-
 -- the four corners of a sheet of that size
 abbrev pub corners : ℕ → ℕ → List Point
 corners w h = point 0 0 ∷ point w 0 ∷ point w h ∷ point 0 h ∷ []
 
 abbrev pub points_of : Sheet → List Point
 points_of s = corners s.width s.height ++ s.inner
-
--- from each corner to the next
-abbrev pub links : List ℕ → List Edge
-links [] = []
-links (u ∷ []) = []
-links (u ∷ v ∷ vs) = edge u v ∷ links (v ∷ vs)
-
--- from each corner to the next, and from the last to the first
-abbrev pub ring_edges : List ℕ → List Edge
-ring_edges cs = links (cs ++ take 1 cs)
-
--- the outside edges
-abbrev pub outside : List Edge
-outside = edge 1 0 ∷ edge 2 1 ∷ edge 3 2 ∷ edge 0 3 ∷ []
 
 abbrev pub edges_of : Sheet → List Edge
 edges_of s = flat_map (λ r. ring_edges r.corners) s.rings ++ outside

@@ -1,10 +1,12 @@
 -- The wording of an answer: that of the label whose numeral the answer's loop has.
 use Rattle.std.specs.Prelude.{ℕ, zero, suc, cond, List, [], ◌∷◌, Some, None, Ok, Option, Result, ◌==◌}
 use Rattle.std.specs.Option.{option_map}
+use Rattle.std.specs.List.{slice_get}
 use Rattle.refusal.specs.declared.Refusal.{Refusal}
 use Rattle.sheet.specs.declared.answer.Answer.{Answer}
 use Rattle.sheet.specs.declared.answer.Answer.TheVariants.{Vertex, OpenEdge, Face}
 use Rattle.sheet.specs.declared.tables.Label.{Label}
+use Rattle.sheet.specs.declared.tables.Loop.{Loop}
 use Rattle.sheet.specs.Files.{contents, find}
 use Rattle.reader.specs.Kinds.{part}
 use Rattle.reader.specs.Reading.{and_then}
@@ -30,6 +32,20 @@ numeral_of rs (Some l) = numeral_at rs l
 -- the label of a numeral; 0 means that there is none
 abbrev pub label_of : ℕ → List Label → Option Label
 label_of m ls = cond (m == 0) None (find m ls)
+
+-- a numeral, where it is not 0
+abbrev pub some_numeral : ℕ → Option ℕ
+some_numeral m = cond (m == 0) None (Some m)
+
+-- the numeral of a table's entry, where it has one
+abbrev pub numeral_of_entry : Option Loop → Option ℕ
+numeral_of_entry None = None
+numeral_of_entry (Some e) = some_numeral e.numeral
+
+-- the numeral of a loop in the table of loops, where it has one
+abbrev pub numeral_in : List Loop → Option ℕ → Option ℕ
+numeral_in loops None = None
+numeral_in loops (Some l) = numeral_of_entry (slice_get loops l)
 
 -- the place of a wording, and that part of the file itself
 abbrev pub spoken : List ℕ → Label → ℕ × List ℕ

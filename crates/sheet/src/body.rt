@@ -4,12 +4,14 @@ ghost use Rattle.lent.specs.Kept.{kept_in, puts};
 ghost use Rattle.std.specs.List.{flat_map};
 ghost use Rattle.sheet.specs.Files.{head, ring, sheet};
 ghost use Rattle.reader.specs.Kinds.{corner, vertex};
-ghost use Rattle.reader.specs.Reading.{placed, several, Reads};
-ghost use Rattle.sheet.specs.Sheets.{corners_in, edges_of, entry, loops_from, loops_of, points_of, ring_edges, size_of};
+ghost use Rattle.reader.specs.Reading.{several};
+ghost use Rattle.reader.specs.Steps.{Passed};
+ghost use Rattle.plane.specs.Edges.{ring_edges};
+ghost use Rattle.sheet.specs.Sheets.{corners_in, edges_of, entry, loops_from, loops_of, points_of, size_of};
 
-use crate::tables::{Edge, Head, Loop, Size};
+use crate::tables::{Head, Loop, Size};
 use lent::LentList;
-use plane::Point;
+use plane::{Edge, Point};
 use reader::Reader;
 use refusal::Refusal;
 
@@ -31,9 +33,8 @@ fn read_vertices(
     height: u16,
     points: &mut LentList<'_, Point>,
 ) -> Result<(), Refusal>
-    ensures value { Reads result (several (λ _. vertex width height reader.old.file.now) [] count reader.old.at) reader.new.at
+    ensures read { Passed (λ file. several (λ _. vertex width height file) [] count) result reader.old reader.new
         (λ vs _. (kept_in points.new ≡ puts (kept_in points.old) vs) × (length vs ≡ count)) }
-    ensures file { reader.new.file.now ≡ reader.old.file.now }
     ensures lent { points.new.items.ghost_name ≡ points.old.items.ghost_name }
 {
     for _done in 0..count {
@@ -51,9 +52,8 @@ fn link_corners(
     more: u16,
     edges: &mut LentList<'_, Edge>,
 ) -> Result<(), Refusal>
-    ensures value { Reads result (several (λ _. corner vertices reader.old.file.now) (first ∷ []) more reader.old.at) reader.new.at
+    ensures read { Passed (λ file. several (λ _. corner vertices file) (first ∷ []) more) result reader.old reader.new
         (λ cs _. (kept_in edges.new ≡ puts (kept_in edges.old) (ring_edges cs)) × (length cs ≡ more + 1)) }
-    ensures file { reader.new.file.now ≡ reader.old.file.now }
     ensures lent { edges.new.items.ghost_name ≡ edges.old.items.ghost_name }
 {
     let mut last = first;
@@ -80,9 +80,8 @@ fn read_corners(
     edges: &mut LentList<'_, Edge>,
 ) -> Result<(), Refusal>
     requires { 3 ≤ count }
-    ensures value { Reads result (several (λ _. corner vertices reader.old.file.now) [] count reader.old.at) reader.new.at
+    ensures read { Passed (λ file. several (λ _. corner vertices file) [] count) result reader.old reader.new
         (λ cs _. (kept_in edges.new ≡ puts (kept_in edges.old) (ring_edges cs)) × (length cs ≡ count)) }
-    ensures file { reader.new.file.now ≡ reader.old.file.now }
     ensures lent { edges.new.items.ghost_name ≡ edges.old.items.ghost_name }
 {
     let first = reader.corner(vertices)?;
@@ -90,15 +89,15 @@ fn read_corners(
 }
 
 // One loop, with its edges behind those that the list has, of which `start` belong to earlier loops.
+#[tactic(auto, unfolding(crate::specs::Files::ring))]
 fn read_loop(
     reader: &mut Reader<'_>,
     vertices: u16,
     start: u16,
     edges: &mut LentList<'_, Edge>,
 ) -> Result<Loop, Refusal>
-    ensures value { Reads result (ring vertices start reader.old.file.now reader.old.at) reader.new.at
+    ensures read { Passed (ring vertices start) result reader.old reader.new
         (λ x y. (y ≡ entry start x) × (start + y.corners ≤ 6150) × (kept_in edges.new ≡ puts (kept_in edges.old) (ring_edges x.corners))) }
-    ensures file { reader.new.file.now ≡ reader.old.file.now }
     ensures lent { edges.new.items.ghost_name ≡ edges.old.items.ghost_name }
 {
     let numeral = reader.numeral()?;
@@ -119,12 +118,10 @@ fn read_loops(
     edges: &mut LentList<'_, Edge>,
     loops: &mut LentList<'_, Loop>,
 ) -> Result<u16, Refusal>
-    ensures value { Reads result (several (λ before. ring vertices (corners_in before) reader.old.file.now) [] count reader.old.at) reader.new.at
+    ensures read { Passed (λ file. several (λ before. ring vertices (corners_in before) file) [] count) result reader.old reader.new
         (λ rs y. (y ≡ corners_in rs) × (length rs ≡ count)
         × (kept_in edges.new ≡ puts (kept_in edges.old) (flat_map (λ r. ring_edges r.corners) rs))
         × (kept_in loops.new ≡ puts (kept_in loops.old) (loops_from 0 rs))) }
-    ensures file { reader.new.file.now ≡ reader.old.file.now }
-    ensures within { IfOk result (λ y. y ≤ 6150) }
     ensures edges_lent { edges.new.items.ghost_name ≡ edges.old.items.ghost_name }
     ensures loops_lent { loops.new.items.ghost_name ≡ loops.old.items.ghost_name }
 {
@@ -138,10 +135,10 @@ fn read_loops(
 }
 
 // The edition, the size, and how many inner vertices there are.
+#[tactic(auto, unfolding(crate::specs::Files::head))]
 fn read_head(reader: &mut Reader<'_>) -> Result<Head, Refusal>
-    ensures value { placed result reader.new.at ≡ head reader.old.file.now reader.old.at }
+    ensures read { Passed head result reader.old reader.new (λ h y. y ≡ h) }
     ensures within { IfOk result (λ y. y.inner ≤ 1024) }
-    ensures file { reader.new.file.now ≡ reader.old.file.now }
 {
     let _ = reader.edition()?;
     let width = reader.extent()?;
@@ -163,26 +160,28 @@ const OUTSIDE: [Edge; 4] = [
 ];
 
 /// Reads a sheet, and puts its points, edges and loops behind those that the lists have, as far as these have room.
+// Three lists, and no struct of them: of a slice that is lent two structs deep the check knows how long it ends, and not as what.
+#[tactic(auto, unfolding(crate::specs::Files::sheet))]
 pub(crate) fn read_sheet(
     reader: &mut Reader<'_>,
     points: &mut LentList<'_, Point>,
     edges: &mut LentList<'_, Edge>,
     loops: &mut LentList<'_, Loop>,
 ) -> Result<Size, Refusal>
-    ensures value { Reads result (sheet reader.old.file.now reader.old.at) reader.new.at
+    ensures read { Passed sheet result reader.old reader.new
         (λ s y. (y ≡ size_of s)
         × (kept_in points.new ≡ puts (kept_in points.old) (points_of s))
         × (kept_in edges.new ≡ puts (kept_in edges.old) (edges_of s))
         × (kept_in loops.new ≡ puts (kept_in loops.old) (loops_of s))) }
-    ensures file { reader.new.file.now ≡ reader.old.file.now }
-    ensures within { IfOk result (λ y. (y.inner ≤ 1024) × (y.loops ≤ 2050) × (y.corners ≤ 6150)) }
     ensures points_lent { points.new.items.ghost_name ≡ points.old.items.ghost_name }
     ensures edges_lent { edges.new.items.ghost_name ≡ edges.old.items.ghost_name }
     ensures loops_lent { loops.new.items.ghost_name ≡ loops.old.items.ghost_name }
 {
-    let head = read_head(reader)?;
-    let width = head.width;
-    let height = head.height;
+    let Head {
+        width,
+        height,
+        inner,
+    } = read_head(reader)?;
     let corners = [
         Point { x: 0, y: 0 },
         Point { x: width, y: 0 },
@@ -193,14 +192,14 @@ pub(crate) fn read_sheet(
         Point { x: 0, y: height },
     ];
     append_all(points, &corners);
-    read_vertices(reader, head.inner, width, height, points)?;
+    read_vertices(reader, inner, width, height, points)?;
     let count = reader.count(2050)?;
-    let corners = read_loops(reader, head.inner + 4, count, edges, loops)?;
+    let corners = read_loops(reader, inner + 4, count, edges, loops)?;
     append_all(edges, &OUTSIDE);
     Ok(Size {
         width,
         height,
-        inner: head.inner,
+        inner,
         loops: count,
         corners,
     })

@@ -10,5 +10,6 @@ mod wordings;
 
 pub use answer::Answer;
 pub use loading::{have_room, load, taken_is_legal};
-pub use tables::{Edge, Loop, Size};
+pub use plane::Edge;
+pub use tables::{Loop, Size};
 pub use wordings::{FilePart, wording};

@@ -4,14 +4,15 @@ ghost use Rattle.lent.specs.Kept.{over};
 ghost use Rattle.sheet.specs.Files.{sheet as sheet_at};
 ghost use Rattle.sheet.specs.Legal.{TakenIsLegal};
 ghost use Rattle.sheet.specs.Load.{roomy, sheet_of, taken, upon};
-ghost use Rattle.reader.specs.Reading.{and_then, Reads};
+ghost use Rattle.reader.specs.Reading.{and_then};
+ghost use Rattle.reader.specs.Steps.{Passed};
 ghost use Rattle.sheet.specs.Sheets.{Sheet, edges_of, loops_of, points_of, size_of};
 
 use crate::body::read_sheet;
 use crate::labels::read_labels;
-use crate::tables::{Edge, Loop, Size};
+use crate::tables::{Loop, Size};
 use lent::LentList;
-use plane::Point;
+use plane::{Edge, Point};
 use reader::{Reader, fault};
 use refusal::{Cause, Refusal};
 
@@ -24,17 +25,14 @@ pub fn have_room(points: &[Point], edges: &[Edge], loops: &[Loop]) -> bool
 
 // A reading that keeps nothing: its lists have no room.
 fn look(reader: &mut Reader<'_>) -> Result<Size, Refusal>
-    ensures value { Reads result (sheet_at reader.old.file.now reader.old.at) reader.new.at (λ s y. y ≡ size_of s) }
-    ensures within { IfOk result (λ y. (y.inner ≤ 1024) × (y.loops ≤ 2050) × (y.corners ≤ 6150)) }
-    ensures file { reader.new.file.now ≡ reader.old.file.now }
+    ensures { Passed sheet_at result reader.old reader.new (λ s y. y ≡ size_of s) }
 {
-    let mut no_points: [Point; 0] = [];
-    let mut no_edges: [Edge; 0] = [];
-    let mut no_loops: [Loop; 0] = [];
-    let mut points = LentList::over(&mut no_points, 0);
-    let mut edges = LentList::over(&mut no_edges, 0);
-    let mut loops = LentList::over(&mut no_loops, 0);
-    read_sheet(reader, &mut points, &mut edges, &mut loops)
+    read_sheet(
+        reader,
+        &mut LentList::over(&mut [], 0),
+        &mut LentList::over(&mut [], 0),
+        &mut LentList::over(&mut [], 0),
+    )
 }
 
 // Reads a sheet that is known to be good into tables that have room for it.
@@ -51,6 +49,7 @@ fn keep(file: &[u8], points: &mut [Point], edges: &mut [Edge], loops: &mut [Loop
 }
 
 // Takes the sheet of a file into tables that have room for it.
+#[tactic(auto, unfolding(crate::specs::Load::sheet_of, crate::specs::Files::contents))]
 fn take(
     file: &[u8],
     points: &mut [Point],
@@ -65,13 +64,15 @@ fn take(
 {
     let mut reader = Reader::new(file);
     let size = look(&mut reader)?;
-    let _ = read_labels(&mut reader, 0)?;
+    let _ = read_labels(&mut reader, None)?;
     // Nothing is refused from here on.
     keep(file, points, edges, loops);
     Ok(size)
 }
 
 /// Takes the sheet of a file into the tables and answers its size; a refused file leaves them as they are.
+// Three slices, here and on the board, and no struct of them: once such a struct ends, the check knows no more of a caller's slices than
+// how long they are.
 pub fn load(
     file: &[u8],
     points: &mut [Point],
@@ -90,8 +91,6 @@ pub fn load(
 }
 
 /// Every file that is taken describes a sheet within its limits, with labels that can be told apart.
-pub fn taken_is_legal() -> u8
+pub fn taken_is_legal()
     ensures { TakenIsLegal }
-{
-    0
-}
+{}

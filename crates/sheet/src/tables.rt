@@ -1,14 +1,7 @@
 //! What the caller's tables hold.
-
-/// A directed edge, by its vertices.
-#[derive(Clone, Copy, PartialEq, Eq, Debug)]
-pub struct Edge {
-    pub from: u16,
-    pub to: u16,
-}
-
 /// A loop: its numeral, the position of its first edge in the edge list, and how many corners it has.
-#[derive(Clone, Copy, PartialEq, Eq, Debug)]
+// Plain numbers, since the table is the caller's: 0 where there is no numeral, and positions in place of a slice of edges.
+#[derive(Clone, Copy, PartialEq, Eq, Debug, Default)]
 pub struct Loop {
     pub numeral: u16,
     pub start: u16,
@@ -16,7 +9,7 @@ pub struct Loop {
 }
 
 /// How large a sheet is, and how many of each kind it has.
-#[derive(Clone, Copy, PartialEq, Eq, Debug)]
+#[derive(Clone, Copy, PartialEq, Eq, Debug, Default)]
 pub struct Size {
     pub width: u16,
     pub height: u16,
@@ -34,6 +27,7 @@ pub struct Head {
 }
 
 /// A label: its numeral, and where its wording stands in the file.
+// A place and a length, and no slice: the place is part of what `wording` answers, which makes the slice once.
 #[derive(Clone, Copy)]
 pub struct Label {
     pub numeral: u16,

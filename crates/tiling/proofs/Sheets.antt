@@ -7,7 +7,8 @@ use Rattle.plane.specs.Crossings.{crossing_sum, edge_crossing}
 use Rattle.plane.specs.Edges.{In, back, edge, ring_edges, sum}
 use Rattle.plane.specs.Points.{Spot}
 use Rattle.plane.proofs.Signs.{lin}
-use Rattle.tiling.specs.Cells.{Subdivision, listed, outside}
+use Rattle.tiling.specs.Cells.{Subdivision, listed}
+use Rattle.plane.specs.Edges.{outside}
 use Rattle.tiling.specs.Lemmas.{Odd, SideOf}
 use Rattle.tiling.specs.Order.{InOrder, Triangulated, loop_of}
 use Rattle.tiling.specs.Triangles.{AllLeftward, Triangle, around, sides, turns}

@@ -7,7 +7,8 @@ use Rattle.plane.specs.Crossings.{crossing_sum}
 use Rattle.plane.specs.Edges.{In, back, edge}
 use Rattle.plane.specs.Points.{Spot}
 use Rattle.plane.proofs.Signs.{lin}
-use Rattle.tiling.specs.Cells.{Cell, Subdivision, cell_holds, drawn, face, listed, outside, vertex}
+use Rattle.tiling.specs.Cells.{Cell, Subdivision, cell_holds, drawn, face, listed, vertex}
+use Rattle.plane.specs.Edges.{outside}
 use Rattle.tiling.specs.Lemmas.{SideOf}
 use Rattle.tiling.specs.Order.{InOrder, Triangulated, loop_of}
 use Rattle.tiling.specs.Theorems.{edge_named, told_by}

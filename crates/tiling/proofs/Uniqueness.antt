@@ -8,7 +8,8 @@ use Rattle.plane.specs.Points.{GridPoint, Spot, ahead, along, det, spot_at}
 use Rattle.plane.proofs.Ring.{var, ◌⊕◌, ◌⊖◌, ◌⊗◌, ring, same?}
 use Rattle.plane.proofs.Signs.{lin, right_0, times-++, times->>, zero_right}
 use Rattle.plane.proofs.Symbols.{GridPointˢ, aheadˢ, alongˢ, aˢ, bˢ, cˢ, detˢ, gˢ, pˢ, spot_atˢ, variables}
-use Rattle.tiling.specs.Cells.{Cell, Subdivision, cell_holds, face, listed, open_edge, outside, vertex}
+use Rattle.tiling.specs.Cells.{Cell, Subdivision, cell_holds, face, listed, open_edge, vertex}
+use Rattle.plane.specs.Edges.{outside}
 use Rattle.tiling.specs.Order.{InOrder, Triangulated, loop_of}
 use Rattle.tiling.specs.Triangles.{Triangle, side_at, sides}
 use Rattle.tiling.proofs.Borders.{Beyond, beyond, frame}

@@ -3,7 +3,7 @@ use Rattle.std.specs.Prelude.{ℕ, Bool, false, not, ◌&&◌, ◌||◌, List, [
 use Rattle.std.specs.List.{flat_map}
 use Rattle.plane.specs.declared.Edge.{Edge}
 use Rattle.plane.specs.Crossings.{crossing_sum}
-use Rattle.plane.specs.Edges.{edge, ring_edges}
+use Rattle.plane.specs.Edges.{outside, ring_edges}
 use Rattle.plane.specs.Points.{GridPoint, Spot, between, int_same, is_at, on_segment}
 
 -- a sheet from (0, 0) to (width, height): how many vertices it has, where each is, and the corners of each loop
@@ -13,10 +13,6 @@ pub record Subdivision : Type 0 where
   pub vertices : ℕ
   pub at : ℕ → GridPoint
   pub loops : List (List ℕ)
-
--- the border, seen from outside
-abbrev pub outside : List Edge
-outside = edge 1 0 ∷ edge 2 1 ∷ edge 3 2 ∷ edge 0 3 ∷ []
 
 -- the edges of all loops, and then the border
 abbrev pub listed : Subdivision → List Edge

@@ -6,6 +6,7 @@ mod tips;
 use std::io::{BufRead, BufReader};
 use tips::play_tip;
 
+// As in `turns`: a crate that both programs share would be longer than this loop.
 fn run(rt: &HostRuntime) -> anyhow::Result<()> {
     let heap = rt.alloc();
     for line in BufReader::new(heap, rt.stdin())?.lines(heap) {

@@ -1,14 +1,13 @@
 //! What the kernels tell of tips.
 use plane::{Kernel, Point, RationalTip, WholeTip};
-use std::io;
-use std::str::Split;
+use std::fmt::Display;
+use std::num::ParseIntError;
+use std::str::{FromStr, Split};
 
 // A tip in the words of a command.
 trait Spelled: Sized {
     // The tip that the next words stand for; none where one is no number of its type.
     fn read(words: &mut Split<'_, char>) -> Option<Self>;
-
-    fn print(&self, rt: &HostRuntime) -> io::Result<()>;
 }
 
 impl Spelled for WholeTip {
@@ -17,24 +16,14 @@ impl Spelled for WholeTip {
         let y = read_number(words)?;
         Some(WholeTip { x, y })
     }
-
-    fn print(&self, rt: &HostRuntime) -> io::Result<()> {
-        let WholeTip { x, y } = *self;
-        println!(rt; "ok {x} {y}")
-    }
 }
 
 impl Spelled for RationalTip {
     fn read(words: &mut Split<'_, char>) -> Option<RationalTip> {
-        let x = words.next()?.parse::<u64>().ok()?;
-        let y = words.next()?.parse::<u64>().ok()?;
-        let z = words.next()?.parse::<u32>().ok()?;
+        let x = read_number(words)?;
+        let y = read_number(words)?;
+        let z = read_number(words)?;
         Some(RationalTip { x, y, z })
-    }
-
-    fn print(&self, rt: &HostRuntime) -> io::Result<()> {
-        let RationalTip { x, y, z } = *self;
-        println!(rt; "ok {x} {y} {z}")
     }
 }
 
@@ -48,6 +37,7 @@ struct Frame {
 }
 
 /// Plays a command on one tip, and prints its outcome.
+// A `match` and no table of functions: a command names a type.
 pub(crate) fn play_tip(rt: &HostRuntime, line: &str) -> anyhow::Result<()> {
     let mut words = line.split(' ');
     match words.next().unwrap_or("") {
@@ -82,7 +72,7 @@ fn tell<T: Kernel + Spelled + Drop>(
 }
 
 // The tip at a whole point.
-fn make<T: Kernel + Spelled + Drop>(
+fn make<T: Kernel + Display + Drop>(
     rt: &HostRuntime,
     words: &mut Split<'_, char>,
 ) -> anyhow::Result<()> {
@@ -91,12 +81,15 @@ fn make<T: Kernel + Spelled + Drop>(
     };
     match T::make(at) {
         None => Ok(rt.println("ok none")?),
-        Some(tip) => Ok(tip.print(rt)?),
+        Some(tip) => {
+            println!(rt; "ok {tip}")?;
+            Ok(())
+        }
     }
 }
 
-fn read_number(words: &mut Split<'_, char>) -> Option<u16> {
-    words.next()?.parse::<u16>().ok()
+fn read_number<N: FromStr<Err = ParseIntError>>(words: &mut Split<'_, char>) -> Option<N> {
+    words.next()?.parse::<N>().ok()
 }
 
 fn read_point(words: &mut Split<'_, char>) -> Option<Point> {

@@ -4,12 +4,13 @@
 mod table;
 mod words;
 
+use desk::LEAST;
 use std::io::{BufRead, BufReader};
 use table::Table;
 
 fn run(rt: &HostRuntime) -> anyhow::Result<()> {
     let heap = rt.alloc();
-    let mut table = Table::new(heap)?;
+    let mut table = Table::new(heap, LEAST)?;
     for line in BufReader::new(heap, rt.stdin())?.lines(heap) {
         let line = line?;
         if !line.is_empty() && !line.as_str().starts_with('#') {

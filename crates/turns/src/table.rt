@@ -1,81 +1,42 @@
 use crate::words::{bytes_of, digest};
-use board::{Board, Stage};
-use nodes::{Node, ReadStore, SliceStore};
-use plane::Point;
+use board::Board;
+use desk::{Desk, LEAST, Lengths};
+use nodes::{Node, SliceStore};
 use refusal::Refusal;
-use sheet::{Answer, Edge, Loop, Size, wording};
+use sheet::{Answer, Size, wording};
 use std::alloc::{AllocError, Global};
 
 /// A board with tables and a store of its own.
 #[derive(Drop)]
 pub(crate) struct Table {
-    board: Board,
-    points: Vec<Point>,
-    edges: Vec<Edge>,
-    loops: Vec<Loop>,
-    live: Vec<u16>,
+    desk: Desk,
     nodes: Vec<Node>,
 }
 
-const NO_NODE: Node = Node {
-    a: 0,
-    b: 0,
-    c: 0,
-    ring: 0,
-    sides: 0,
-    count: 0,
-    children: [0; 8],
-};
-
 impl Table {
-    /// An empty Draft, over tables of the least sizes.
-    pub(crate) fn new(heap: Global) -> Result<Table, AllocError> {
-        Table::sized(heap, 1028, 6154, 2050, 2050)
-    }
-
-    // An empty Draft, over tables of these lengths.
-    fn sized(
-        heap: Global,
-        points: usize,
-        edges: usize,
-        loops: usize,
-        live: usize,
-    ) -> Result<Table, AllocError> {
-        let points = vec![in heap; Point { x: 0, y: 0 }; points]?;
-        let edges = vec![in heap; Edge { from: 0, to: 0 }; edges]?;
-        let loops = vec![in heap; Loop {
-            numeral: 0,
-            start: 0,
-            corners: 0
-        }; loops]?;
-        let live = vec![in heap; 0u16; live]?;
-        let nodes = vec![in heap; NO_NODE; 18]?;
-        let board = Board::new();
+    /// An empty Draft, over tables of these lengths.
+    pub(crate) fn new(heap: Global, lengths: Lengths) -> Result<Table, AllocError> {
         Ok(Table {
-            board,
-            points,
-            edges,
-            loops,
-            live,
-            nodes,
+            desk: Desk::new(heap, lengths)?,
+            nodes: vec![in heap; Node::default(); 18]?,
         })
     }
 
     /// Plays one command, and prints its outcome.
+    // A `match` and no table of functions: each command takes other words.
     pub(crate) fn play(&mut self, rt: &HostRuntime, line: &str) -> anyhow::Result<()> {
         let mut words = line.split(' ');
-        let command = words.next().unwrap_or("");
-        let first = words.next().unwrap_or("");
-        let second = words.next().unwrap_or("");
-        let third = words.next().unwrap_or("");
-        let fourth = words.next().unwrap_or("");
-        match command {
-            "load" => self.load(rt, first),
+        let mut next = || match words.next() {
+            Some(word) => word,
+            None => "",
+        };
+        match next() {
+            "load" => self.load(rt, next()),
             "wipe" => self.wipe(rt),
             "stage" => self.print_stage(rt),
-            "short" => self.shorten(rt, first, second),
+            "short" => self.shorten(rt, next(), next()),
             "tables" => self.print_tables(rt),
-            "wording" => print_wording(rt, first, second, third, fourth),
+            "wording" => print_wording(rt, next(), answer_of(next(), next(), next())),
             _ => Ok(rt.println("unknown command")?),
         }
     }
@@ -84,11 +45,7 @@ impl Table {
         let Some(file) = bytes_of(rt.alloc(), hex)? else {
             return Ok(rt.println("no such bytes")?);
         };
-        let points = self.points.as_mut_slice();
-        let edges = self.edges.as_mut_slice();
-        let loops = self.loops.as_mut_slice();
-        let live = self.live.as_mut_slice();
-        match self.board.load(file.as_slice(), points, edges, loops, live) {
+        match self.desk.load(file.as_slice()) {
             Ok(()) => Ok(rt.println("ok")?),
             Err(refusal) => print_refusal(rt, refusal),
         }
@@ -96,85 +53,84 @@ impl Table {
 
     fn wipe(&mut self, rt: &HostRuntime) -> anyhow::Result<()> {
         let mut store = SliceStore::new(self.nodes.as_mut_slice());
-        self.board.wipe(&mut store);
+        self.desk.board.wipe(&mut store);
         Ok(rt.println("ok")?)
     }
 
     fn print_stage(&self, rt: &HostRuntime) -> anyhow::Result<()> {
-        let name = match self.board.stage() {
-            Stage::Draft => "Draft",
-            Stage::Checked => "Checked",
-            Stage::Layered => "Layered",
-            Stage::Sealed => "Sealed",
-        };
-        println!(rt; "ok {name}")?;
+        let stage = self.desk.board.stage();
+        println!(rt; "ok {stage:?}")?;
         Ok(())
     }
 
-    // A new board, over tables of the least sizes but for one.
+    // A new board, over tables of the least lengths but for one.
     fn shorten(&mut self, rt: &HostRuntime, name: &str, length: &str) -> anyhow::Result<()> {
         let Ok(length) = length.parse::<u16>() else {
             return Ok(rt.println("no such length")?);
         };
-        let length = length as usize;
-        let heap = rt.alloc();
-        *self = match name {
-            "points" => Table::sized(heap, length, 6154, 2050, 2050)?,
-            "edges" => Table::sized(heap, 1028, length, 2050, 2050)?,
-            "loops" => Table::sized(heap, 1028, 6154, length, 2050)?,
-            "live" => Table::sized(heap, 1028, 6154, 2050, length)?,
+        let length = usize::from(length);
+        let lengths = match name {
+            "points" => Lengths {
+                points: length,
+                ..LEAST
+            },
+            "edges" => Lengths {
+                edges: length,
+                ..LEAST
+            },
+            "loops" => Lengths {
+                loops: length,
+                ..LEAST
+            },
+            "live" => Lengths {
+                live: length,
+                ..LEAST
+            },
             // No turn is lent the strokes yet.
-            "strokes" => Table::new(heap)?,
+            "strokes" => LEAST,
             _ => return Ok(rt.println("no such table")?),
         };
+        *self = Table::new(rt.alloc(), lengths)?;
         Ok(rt.println("ok")?)
     }
 
     // The board's numbers, and a digest of what each table holds of the sheet.
     fn print_tables(&self, rt: &HostRuntime) -> anyhow::Result<()> {
-        let Size {
-            width,
-            height,
-            inner,
+        let Desk {
+            board,
+            points,
+            edges,
             loops,
-            corners,
-        } = self.board.size();
-        let live = self.board.live();
-        let outside = if width == 0 { 0 } else { 4 };
-        let points_digest = digest_points(self.points.as_slice(), inner as usize + outside);
-        let edges_digest = digest_edges(self.edges.as_slice(), corners as usize + outside);
-        let loops_digest = digest_loops(self.loops.as_slice(), loops as usize);
-        print!(rt; "ok {width} {height} {inner} {loops} {corners} {live} ")?;
+            ..
+        } = &self.desk;
+        let size = board.size();
+        let outside = if size.width == 0 { 0 } else { 4 };
+        let points = points.iter().take(size.inner as usize + outside);
+        let edges = edges.iter().take(size.corners as usize + outside);
+        let loops = loops.iter().take(size.loops as usize);
+        let points_digest = digest(points.flat_map(|point| [point.x, point.y]));
+        let edges_digest = digest(edges.flat_map(|edge| [edge.from, edge.to]));
+        let loops_digest = digest(loops.flat_map(|entry| [
+            entry.numeral,
+            entry.start,
+            entry.corners,
+        ]));
+        print_size(rt, size, board.live())?;
         println!(rt; "points {points_digest} edges {edges_digest} loops {loops_digest}")?;
         Ok(())
     }
 }
 
-fn digest_points(points: &[Point], count: usize) -> u32 {
-    let mut all = 0;
-    for point in points.iter().take(count) {
-        all = digest(digest(all, point.x), point.y);
-    }
-    all
-}
-
-fn digest_edges(edges: &[Edge], count: usize) -> u32 {
-    let mut all = 0;
-    for edge in edges.iter().take(count) {
-        all = digest(digest(all, edge.from), edge.to);
-    }
-    all
-}
-
-fn digest_loops(loops: &[Loop], count: usize) -> u32 {
-    let mut all = 0;
-    for entry in loops.iter().take(count) {
-        all = digest(
-            digest(digest(all, entry.numeral), entry.start),
-            entry.corners,
-        );
-    }
-    all
+fn print_size(rt: &HostRuntime, size: Size, live: u16) -> anyhow::Result<()> {
+    let Size {
+        width,
+        height,
+        inner,
+        loops,
+        corners,
+    } = size;
+    print!(rt; "ok {width} {height} {inner} {loops} {corners} {live} ")?;
+    Ok(())
 }
 
 fn print_refusal(rt: &HostRuntime, refusal: Refusal) -> anyhow::Result<()> {
@@ -187,12 +143,8 @@ fn print_refusal(rt: &HostRuntime, refusal: Refusal) -> anyhow::Result<()> {
 
 // The answer that a kind and two numbers stand for.
 fn answer_of(kind: &str, a: &str, b: &str) -> Option<Answer> {
-    let Ok(a) = a.parse::<u16>() else {
-        return None;
-    };
-    let Ok(b) = b.parse::<u16>() else {
-        return None;
-    };
+    let a = a.parse::<u16>().ok()?;
+    let b = b.parse::<u16>().ok()?;
     match kind {
         "1" => Some(Answer::Vertex(a)),
         "2" => Some(Answer::OpenEdge(a, b)),
@@ -201,11 +153,11 @@ fn answer_of(kind: &str, a: &str, b: &str) -> Option<Answer> {
     }
 }
 
-fn print_wording(rt: &HostRuntime, hex: &str, kind: &str, a: &str, b: &str) -> anyhow::Result<()> {
+fn print_wording(rt: &HostRuntime, hex: &str, answer: Option<Answer>) -> anyhow::Result<()> {
     let Some(file) = bytes_of(rt.alloc(), hex)? else {
         return Ok(rt.println("no such bytes")?);
     };
-    let Some(answer) = answer_of(kind, a, b) else {
+    let Some(answer) = answer else {
         return Ok(rt.println("no such answer")?);
     };
     match wording(file.as_slice(), answer) {

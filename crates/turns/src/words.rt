@@ -1,7 +1,9 @@
 //! The words of a command.
+ghost use Rattle.std.specs.Iterator.{IsFinite};
+
 use std::alloc::{AllocError, Global};
 
-// The value of a hexadecimal digit.
+// The value of a hexadecimal digit, in small letters only: the library's functions take capitals too.
 fn digit(b: u8) -> Option<u8> {
     match b {
         b'0'..=b'9' => Some(b - b'0'),
@@ -29,7 +31,14 @@ pub(crate) fn bytes_of(heap: Global, word: &str) -> Result<Option<Vec<u8>>, Allo
     Ok(Some(bytes))
 }
 
-/// One step of a digest over many numbers.
-pub(crate) fn digest(before: u32, number: u16) -> u32 {
-    before.wrapping_mul(31).wrapping_add(u32::from(number))
+/// A digest of many numbers.
+pub(crate) fn digest<I: Iterator<Item = u16> + Drop>(numbers: I) -> u32
+    requires can { I.can_next numbers }
+    requires ends { IsFinite (I.remaining numbers) }
+{
+    let mut all = 0u32;
+    for number in numbers {
+        all = all.wrapping_mul(31).wrapping_add(u32::from(number));
+    }
+    all
 }

@@ -1,29 +1,20 @@
-use Rattle.std.proofs.Common.{◌≡◌, sym, refl, ◌∙◌, arith}
-use Rattle.std.proofs.lemmas.Bool.Decides.{nat_tests}
-use Rattle.reader.proofs.Letters.{wording_step, wording_end_lem, wording_start}
+-- Whichever way the reading ends, it has seen the bytes before that place.
+use Rattle.std.proofs.Common.{arith, rules}
+use Rattle.std.proofs.lemmas.List.{places}
+use Rattle.reader.proofs.Letters.{wording_bad, wording_short, wording_whole}
 use Rattle.reader.proofs.wording_end.Goals as goal
 
-pub loop-i-init : goal.loop-i-init
-loop-i-init c = (wording_start _ _ _, omega arith)
+pub returns-in-Some-clause-value : goal.returns-in-Some-clause-value
+returns-in-Some-clause-value c =
+    let w = wording_bad c.args.file.now c.args.length c.args.at c.min.result (omega arith) (grind (arith, places)) c.in-Some.i (search rules) in
+    cc
 
-pub returns-then-i-file : goal.returns-then-i-file
-returns-then-i-file c =
-    let s = wording_step c.args.file.now c.args.length c.loop-i.i c.args.at c.loop-i-test.true in
-    record { value = grind (arith, nat_tests); within = tt }
+pub returns-then-text-from-clause-value : goal.returns-then-text-from-clause-value
+returns-then-text-from-clause-value c =
+    let w = wording_short c.args.file.now c.args.length c.args.at c.min.result (omega arith) (grind (arith, places)) (search rules) (omega arith) (grind (arith, places)) in
+    cc
 
-pub returns-then-b-lt32 : goal.returns-then-b-lt32
-returns-then-b-lt32 c =
-    let s = wording_step c.args.file.now c.args.length c.loop-i.i c.args.at c.loop-i-test.true in
-    record { value = grind (arith, nat_tests); within = tt }
-
-pub loop-i-preserved : goal.loop-i-preserved
-loop-i-preserved c =
-    let s = wording_step c.args.file.now c.args.length c.loop-i.i c.args.at c.loop-i-test.true in
-    (grind (arith, nat_tests), omega arith)
-
-pub returns : goal.returns
-returns c =
-    let done : c.loop-i.i ≡ c.args.length = omega arith in
-    let s = wording_end_lem c.args.file.now c.args.length c.args.at in
-    let v = c.loop-i.invariant.0 in
-    record { value = sym s ∙ rw done at v; within = (refl, omega arith) }
+pub returns-clause-value : goal.returns-clause-value
+returns-clause-value c =
+    let w = wording_whole c.args.file.now c.args.length c.args.at c.min.result (omega arith) (grind (arith, places)) (search rules) (omega arith) in
+    cc

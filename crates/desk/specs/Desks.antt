@@ -1,0 +1,19 @@
+-- A desk at the start, and what a load takes of it.
+use Rattle.std.specs.Prelude.{◌≡◌, ℕ, List, Result, vec_len}
+use Rattle.refusal.specs.declared.Refusal.{Refusal}
+use Rattle.sheet.specs.Sheets.{Sheet}
+use Rattle.board.specs.Turns.{bare, loads}
+use Rattle.desk.specs.declared.Desk.{Desk}
+use Rattle.desk.specs.declared.Lengths.{Lengths}
+
+-- an empty Draft, over tables of these lengths
+pub record IsFresh (l : Lengths) (d : Desk) : Type 0 where
+  pub board : d.board ≡ bare
+  pub points : vec_len d.points ≡ l.points
+  pub edges : vec_len d.edges ≡ l.edges
+  pub loops : vec_len d.loops ≡ l.loops
+  pub live : vec_len d.live ≡ l.live
+
+-- what a load takes over the desk's tables
+abbrev pub desk_loads : Desk → List ℕ → Result Sheet Refusal
+desk_loads d file = loads d.board d.points.items d.edges.items d.loops.items d.live.items file

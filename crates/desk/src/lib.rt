@@ -1,0 +1,76 @@
+//! A board with tables of its own, for a program that has a heap.
+#![tactic(auto)]
+
+ghost use Rattle.std.specs.Prelude.{◌≡◌, IfOk, Ok as Good};
+ghost use Rattle.reader.specs.Reading.{and_then};
+ghost use Rattle.sheet.specs.Load.{upon};
+ghost use Rattle.sheet.specs.Sheets.{edges_of, loops_of, points_of};
+ghost use Rattle.board.specs.Turns.{load_board};
+ghost use Rattle.desk.specs.Desks.{IsFresh, desk_loads};
+
+use board::Board;
+use plane::{Edge, Point};
+use refusal::Refusal;
+use sheet::Loop;
+use std::alloc::{AllocError, Global};
+
+/// How many entries each table has.
+#[derive(Clone, Copy, PartialEq, Eq, Debug)]
+pub struct Lengths {
+    pub points: usize,
+    pub edges: usize,
+    pub loops: usize,
+    pub live: usize,
+}
+
+/// The least lengths with which a sheet is loaded.
+pub const LEAST: Lengths = Lengths {
+    points: 1028,
+    edges: 6154,
+    loops: 2050,
+    live: 2050,
+};
+
+/// A board, and the tables that it lends to its turns.
+#[derive(Drop)]
+pub struct Desk {
+    pub board: Board,
+    pub points: Vec<Point>,
+    pub edges: Vec<Edge>,
+    pub loops: Vec<Loop>,
+    pub live: Vec<u16>,
+}
+
+impl Desk {
+    /// An empty Draft, over tables of these lengths.
+    pub fn new(heap: Global, lengths: Lengths) -> Result<Desk, AllocError>
+        ensures { IfOk result (IsFresh lengths) }
+    {
+        Ok(Desk {
+            board: Board::new(),
+            points: vec![in heap; Point::default(); lengths.points]?,
+            edges: vec![in heap; Edge::default(); lengths.edges]?,
+            loops: vec![in heap; Loop::default(); lengths.loops]?,
+            live: vec![in heap; 0; lengths.live]?,
+        })
+    }
+
+    /// Replaces the Draft by the sheet of a file; a refusal leaves the board and the tables as they are.
+    pub fn load(&mut self, file: &[u8]) -> Result<(), Refusal>
+        ensures said { result ≡ and_then (desk_loads self.old file.now) (λ _. Good tt) }
+        ensures board { self.new.board ≡ load_board (desk_loads self.old file.now) self.old.board }
+        ensures points { self.new.points.items ≡ upon (desk_loads self.old file.now) points_of self.old.points.items }
+        ensures edges { self.new.edges.items ≡ upon (desk_loads self.old file.now) edges_of self.old.edges.items }
+        ensures loops { self.new.loops.items ≡ upon (desk_loads self.old file.now) loops_of self.old.loops.items }
+        ensures live { self.new.live.items ≡ self.old.live.items }
+    {
+        let points = self.points.as_mut_slice();
+        let edges = self.edges.as_mut_slice();
+        let loops = self.loops.as_mut_slice();
+        let live = self.live.as_mut_slice();
+        self.board.load(file, points, edges, loops, live)
+    }
+}
+
+#[cfg(test)]
+mod tests;
