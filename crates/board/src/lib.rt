@@ -5,3 +5,4 @@ mod stage;
 mod turns;
 
 pub use stage::{Board, Stage};
+pub use turns::LEAST_LIVE;

@@ -16,7 +16,8 @@ pub enum Stage {
 }
 
 /// One sheet at its stage, as plain numbers; an empty Draft has width 0.
-// No `Option` tells that a Draft is empty: no file has width 0, so there is no second flag that could disagree.
+// Plain numbers are the same on every machine: so width 0, which no file has, tells that a Draft is empty, and no `Option`. The counts
+// are of tables that are the caller's.
 #[derive(Clone, Copy, PartialEq, Eq, Debug)]
 pub struct Board {
     pub(crate) stage: Stage,

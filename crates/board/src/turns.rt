@@ -11,11 +11,14 @@ use plane::{Edge, Point};
 use refusal::{Cause, Layer, Refusal};
 use sheet::{Loop, Size};
 
+/// The least length of the table of live nodes.
+pub const LEAST_LIVE: usize = 2050;
+
 // Whether the tables that a load is lent have room for every sheet.
 fn have_room(points: &[Point], edges: &[Edge], loops: &[Loop], live: &[u16]) -> bool
     ensures { result ≡ load_room (length points.now) (length edges.now) (length loops.now) (length live.now) }
 {
-    live.len() >= 2050 && sheet::have_room(points, edges, loops)
+    live.len() >= LEAST_LIVE && sheet::have_room(points, edges, loops)
 }
 
 impl Board {
@@ -31,6 +34,7 @@ impl Board {
     }
 
     /// Replaces the Draft by the sheet of a file; a refusal leaves the board and the tables as they are.
+    // Tables one by one, as `sheet::load` takes them, for its reason.
     pub fn load(
         &mut self,
         file: &[u8],
@@ -53,7 +57,7 @@ impl Board {
             return Err(Refusal::new(Cause::NotThisStage, Layer::File, 0));
         };
         let size = sheet::load(file, points, edges, loops)?;
-        let mut nodes = LentList::over(live, self.live as usize);
+        let mut nodes = LentList::over(live, usize::from(self.live));
         nodes.empty();
         *self = Board {
             stage: Stage::Draft,

@@ -8,10 +8,10 @@ ghost use Rattle.sheet.specs.Sheets.{edges_of, loops_of, points_of};
 ghost use Rattle.board.specs.Turns.{load_board};
 ghost use Rattle.desk.specs.Desks.{IsFresh, desk_loads};
 
-use board::Board;
+use board::{Board, LEAST_LIVE};
 use plane::{Edge, Point};
 use refusal::Refusal;
-use sheet::Loop;
+use sheet::{LEAST_EDGES, LEAST_LOOPS, LEAST_POINTS, Loop};
 use std::alloc::{AllocError, Global};
 
 /// How many entries each table has.
@@ -25,10 +25,10 @@ pub struct Lengths {
 
 /// The least lengths with which a sheet is loaded.
 pub const LEAST: Lengths = Lengths {
-    points: 1028,
-    edges: 6154,
-    loops: 2050,
-    live: 2050,
+    points: LEAST_POINTS,
+    edges: LEAST_EDGES,
+    loops: LEAST_LOOPS,
+    live: LEAST_LIVE,
 };
 
 /// A board, and the tables that it lends to its turns.

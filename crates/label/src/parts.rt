@@ -28,7 +28,7 @@ pub(crate) fn print_parts(rt: &HostRuntime, desk: &Desk, file: &[u8]) -> anyhow:
         "loop", "numeral", "wording"
     )?;
     for (number, entry) in (0..loops).zip(desk.loops.iter()) {
-        let numeral = Numeral(entry.numeral);
+        let numeral = Numeral(entry.some_numeral());
         let wording = words.get(&entry.numeral).map_or("-", |word| word.as_str());
         let corners = Corners(edges_of(desk, *entry));
         println!(rt; "{number:>4}  {numeral:>7}  {wording:<room$}  {corners}")?;
@@ -57,22 +57,22 @@ fn wording_text(heap: Global, file: &[u8], number: u16) -> Result<String, AllocE
 
 // The edges of a loop.
 fn edges_of(desk: &Desk, entry: Loop) -> &[Edge] {
-    let start = entry.start as usize;
+    let start = usize::from(entry.start);
     desk.edges
         .as_slice()
-        .get(start..start + entry.corners as usize)
+        .get(start..start + usize::from(entry.corners))
         .unwrap_or(&[])
 }
 
 // A numeral, or a dash for none.
 #[derive(Clone, Copy)]
-struct Numeral(u16);
+struct Numeral(Option<u16>);
 
 impl fmt::Display for Numeral {
     fn fmt<W: fmt::Write>(&self, f: &mut fmt::Formatter<W>) -> fmt::Result {
         match self.0 {
-            0 => f.pad("-"),
-            numeral => numeral.fmt(f),
+            None => f.pad("-"),
+            Some(numeral) => numeral.fmt(f),
         }
     }
 }

@@ -1,5 +1,5 @@
 -- A list kept in the front of a slice, and what its calls answer and leave.
-use Rattle.std.specs.Prelude.{ℕ, ◌+◌, min, cond, List, [], ◌∷◌, ◌++◌, length, take, drop, Ok, Err, Result, nat_lt, slice_set}
+use Rattle.std.specs.Prelude.{◌≡◌, ℕ, ◌+◌, min, cond, List, [], ◌∷◌, ◌++◌, length, take, drop, Ok, Err, Result, nat_lt, slice_set}
 use Rattle.std.specs.Option.{ok_or}
 use Rattle.std.specs.List.{slice_get}
 use Rattle.lent.specs.declared.LentList.{LentList}
@@ -17,6 +17,10 @@ kept items count = record { items = items; count = count }
 -- what a list over a lent slice keeps
 abbrev pub kept_in : {X : Type 0} → LentList X → Kept X
 kept_in l = kept l.items.now l.count
+
+-- the list is over the slice that it was over
+abbrev pub SameSlice : {X : Type 0} → LentList X → LentList X → Type 0
+SameSlice old new = new.items.ghost_name ≡ old.items.ghost_name
 
 -- how many elements there are: no more than the slice has
 abbrev pub count_of : {X : Type 0} → Kept X → ℕ

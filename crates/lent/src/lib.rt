@@ -2,13 +2,13 @@
 #![tactic(auto)]
 
 ghost use Rattle.std.specs.Prelude.{◌≡◌, take};
-ghost use Rattle.lent.specs.Kept.{append_said, count_of, kept, kept_in, none, put, read_said};
+ghost use Rattle.lent.specs.Kept.{append_said, count_of, kept, kept_in, none, put, read_said, SameSlice};
 
 use refusal::Cause;
 
 /// A list of the first `count` elements of a lent slice.
-// A count beside a slice, and no `Vec`: the memory is the caller's. That a list stays over its slice is a clause of each call: which
-// loan a reference is of is no part of a value, so no invariant can say it.
+// A count beside a slice, and no `Vec`: the memory is the caller's. That a list stays over its slice is a clause of each call
+// (`SameSlice`): which loan a reference is of is no part of a value, so no invariant can say it.
 #[derive(Drop)]
 pub struct LentList<'a, T> {
     items: &'a mut [T],
@@ -35,7 +35,7 @@ impl<'a, T: Copy> LentList<'a, T> {
     pub fn append(&mut self, item: T) -> Result<(), Cause>
         ensures said { result ≡ append_said (kept_in self.old) }
         ensures kept { kept_in self.new ≡ put (kept_in self.old) item }
-        ensures lent { self.new.items.ghost_name ≡ self.old.items.ghost_name }
+        ensures lent { SameSlice self.old self.new }
     {
         if self.count >= self.items.len() {
             return Err(Cause::TableTooShort);
@@ -58,7 +58,7 @@ impl<'a, T: Copy> LentList<'a, T> {
     /// Takes every element out; the slice stays as it is.
     pub fn empty(&mut self)
         ensures kept { kept_in self.new ≡ none (kept_in self.old) }
-        ensures lent { self.new.items.ghost_name ≡ self.old.items.ghost_name }
+        ensures lent { SameSlice self.old self.new }
     {
         self.count = 0;
     }

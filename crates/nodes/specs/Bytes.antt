@@ -1,5 +1,5 @@
 -- Nodes in blocks of 512 bytes: eighteen nodes of fourteen numbers of two bytes, the low byte first, and 8 bytes that are not used.
-use Rattle.std.specs.Prelude.{◌≡◌, ℕ, ◌+◌, ◌*◌, ◌/◌, ◌%◌, ◌<◌, ◌≤◌, ◌⊎◌, List, map, length, take, drop, slice_index}
+use Rattle.std.specs.Prelude.{◌≡◌, ℕ, ◌+◌, ◌*◌, ◌/◌, ◌%◌, ◌<◌, ◌≤◌, ◌⊎◌, List, map, length, take, drop, slice_index, slice_index_or}
 use Rattle.std.specs.List.{range_with_len}
 use Rattle.nodes.specs.declared.node.Node.{Node}
 
@@ -40,6 +40,10 @@ node_at bytes at = node_of (words bytes at)
 abbrev pub nodes_in : List ℕ → ℕ → List Node
 nodes_in bytes n = map (λ k. node_at bytes (offset k)) (range_with_len 0 n)
 
+-- every element but the n from a place on is as it was
+abbrev pub KeptOutside : {X : Type 0} → X → ℕ → ℕ → List X → List X → Type 0
+KeptOutside d n at old new = (j : ℕ) → (j < at) ⊎ (at + n ≤ j) → slice_index_or new j d ≡ slice_index_or old j d
+
 -- every byte but the 28 from a place on is as it was
 abbrev pub KeptBut : ℕ → List ℕ → List ℕ → Type 0
-KeptBut at old new = (j : ℕ) → (j < at) ⊎ (at + 28 ≤ j) → slice_index new j ≡ slice_index old j
+KeptBut = KeptOutside 0 28

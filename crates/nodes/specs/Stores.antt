@@ -1,9 +1,9 @@
 -- The nodes that a store over lent memory holds, and what the two kinds of memory have.
-use Rattle.std.specs.Prelude.{◌≡◌, ◌≢◌, ℕ, List, length, take, slice_index_or}
+use Rattle.std.specs.Prelude.{ℕ, List, length, take}
 use Rattle.std.specs.Borrow.{MutBor}
 use Rattle.nodes.specs.declared.lent_store.LentStore.{LentStore}
 use Rattle.nodes.specs.declared.node.Node.{Node}
-use Rattle.nodes.specs.Bytes.{nodes_in, room_of}
+use Rattle.nodes.specs.Bytes.{nodes_in, room_of, KeptOutside}
 use Rattle.nodes.specs.Nodes.{blank}
 
 -- what a store keeps its nodes in
@@ -29,7 +29,7 @@ slice_room s = length (memory_of s).now
 
 -- every slot but k is as it was
 abbrev pub SlotsKeptBut : ℕ → List Node → List Node → Type 0
-SlotsKeptBut k old new = (j : ℕ) → j ≢ k → slice_index_or new j blank ≡ slice_index_or old j blank
+SlotsKeptBut = KeptOutside blank 1
 
 abbrev pub block_nodes : Blocks → List Node
 block_nodes = stored (λ bytes. nodes_in bytes.now (room_of bytes.now))

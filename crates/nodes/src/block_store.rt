@@ -23,7 +23,7 @@ fn write_node(bytes: &mut [u8], at: usize, node: &Node)
     ensures written { (i : ℕ) → i < 14 → word bytes.new (at + 2 * i) ≡ slice_index (numbers node.now) i }
     ensures rest { KeptBut at bytes.old bytes.new }
 {
-    // By index: of `chunks_exact_mut` a proof knows how many chunks there are, and not what is written into them.
+    // By index: after `chunks_exact_mut`, which was tried, a proof knows how long the bytes are, and not what they hold.
     for i in 0..14 {
         let [low, high] = node.number(i).to_le_bytes();
         bytes[at + 2 * i] = low;
@@ -33,20 +33,6 @@ fn write_node(bytes: &mut [u8], at: usize, node: &Node)
 
 /// A store over bytes that the caller lends, eighteen nodes in each whole block of 512.
 pub type BlockStore<'a> = LentStore<&'a mut [u8]>;
-
-impl<'a> LentStore<&'a mut [u8]> {
-    /// An empty store with room for 18 nodes in each whole block of `bytes`.
-    pub fn new(bytes: &'a mut [u8]) -> BlockStore<'a>
-        ensures nodes { block_nodes result ≡ [] }
-        ensures room { block_room result ≡ room_of bytes.old }
-        ensures lent { (memory_of result).now ≡ bytes.old }
-    {
-        LentStore {
-            memory: bytes,
-            used: 0,
-        }
-    }
-}
 
 /// Bytes as memory for nodes: those that lie outside the nodes' own are never written.
 impl<'a> Memory for &'a mut [u8] {

@@ -1,4 +1,4 @@
-ghost use Rattle.std.specs.Prelude.{◌≡◌, length};
+ghost use Rattle.std.specs.Prelude.{◌≡◌, [], length};
 ghost use Rattle.nodes.specs.Nodes.{add_said, added};
 ghost use Rattle.nodes.specs.Stores.{memory_of, stored};
 
@@ -13,6 +13,16 @@ use refusal::{Cause, Layer, Refusal};
 pub struct LentStore<M> {
     pub(crate) memory: M,
     pub(crate) used: usize,
+}
+
+impl<M: Memory> LentStore<M> {
+    /// An empty store, with room for as many nodes as `memory` has.
+    pub fn new(memory: M) -> LentStore<M>
+        ensures nodes { stored M.nodes result ≡ [] }
+        ensures lent { memory_of result ≡ memory }
+    {
+        LentStore { memory, used: 0 }
+    }
 }
 
 /// How a store is read.

@@ -2,7 +2,8 @@ ghost use Rattle.std.specs.Prelude.{◌≡◌, slice_index};
 ghost use Rattle.nodes.specs.Nodes.{numbers};
 
 /// A triangle of the hierarchy: its corners, its loop, which of its sides are edges of the sheet, and its children.
-// Fourteen numbers, as a store keeps them: so a count beside eight children, and sides in one number.
+// Fourteen numbers, as every store keeps them on every machine: so a count beside eight children, 0 for a child that is not in use and
+// for the loop of a node that has none, sides in one number, and 0 for a number past the fourteenth.
 #[derive(Clone, Copy, PartialEq, Eq, Default, Debug)]
 pub struct Node {
     /// The first corner's vertex.

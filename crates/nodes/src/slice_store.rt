@@ -8,20 +8,6 @@ use crate::node::Node;
 /// A store over records that the caller lends, a node in each.
 pub type SliceStore<'a> = LentStore<&'a mut [Node]>;
 
-impl<'a> LentStore<&'a mut [Node]> {
-    /// An empty store with room for as many nodes as `slots` has.
-    pub fn new(slots: &'a mut [Node]) -> SliceStore<'a>
-        ensures nodes { slice_nodes result ≡ [] }
-        ensures room { slice_room result ≡ length slots.old }
-        ensures lent { (memory_of result).now ≡ slots.old }
-    {
-        LentStore {
-            memory: slots,
-            used: 0,
-        }
-    }
-}
-
 /// Records as memory for nodes.
 impl<'a> Memory for &'a mut [Node] {
     ghost nodes = { λ slots. slots.now };

@@ -25,7 +25,8 @@ pub fn fault(cause: Cause, place: usize) -> Refusal
     Refusal::new(cause, Layer::File, place)
 }
 
-// The number that stands at a place, and the place behind it.
+// The number that stands at a place, and the place behind it. No method, since a vertex is two numbers, and a reader that refuses the
+// second must not have moved.
 fn number_at(file: &[u8], at: usize) -> Result<(u32, usize), Refusal>
     requires { at ≤ list_length file.now }
     ensures value { result ≡ number_of file.now at }
@@ -193,10 +194,26 @@ impl<'a> Reader<'a> {
         ensures file { self.new.file.now ≡ self.old.file.now }
         ensures stays { Stays result self.old.at self.new.at }
     {
-        let next = wording_end(self.file, self.at, length)?;
+        let next = self.wording_end(length)?;
         let text = &self.file[self.at..next];
         self.at = next;
         Ok(text)
+    }
+
+    // The place behind the bytes of a wording.
+    fn wording_end(&self, length: u16) -> Result<usize, Refusal>
+        ensures value { result ≡ wording_of self.now.file.now length self.now.at }
+        ensures within { IfOk result (λ next. (next ≡ self.now.at + length) × (next ≤ list_length self.now.file.now)) }
+    {
+        let rest = &self.file[self.at..];
+        let text = &rest[..rest.len().min(usize::from(length))];
+        if let Some(i) = first_unprintable(text) {
+            return Err(fault(Cause::BadWording, self.at + i));
+        }
+        if text.len() < usize::from(length) {
+            return Err(fault(Cause::FileEnds, self.file.len()));
+        }
+        Ok(self.at + text.len())
     }
 
     /// The end of the file; bytes that are left are refused.
@@ -215,23 +232,6 @@ fn first_unprintable(text: &[u8]) -> Option<usize>
     ensures { result ≡ position (λ b. not (between 32 126 b)) text.now }
 {
     text.iter().position(|b| *b < 32 || *b > 126)
-}
-
-// The place behind the bytes of a wording.
-fn wording_end(file: &[u8], at: usize, length: u16) -> Result<usize, Refusal>
-    requires { at ≤ list_length file.now }
-    ensures value { result ≡ wording_of file.now length at }
-    ensures within { IfOk result (λ next. (next ≡ at + length) × (next ≤ list_length file.now)) }
-{
-    let rest = &file[at..];
-    let text = &rest[..rest.len().min(usize::from(length))];
-    if let Some(i) = first_unprintable(text) {
-        return Err(fault(Cause::BadWording, at + i));
-    }
-    if text.len() < usize::from(length) {
-        return Err(fault(Cause::FileEnds, file.len()));
-    }
-    Ok(at + text.len())
 }
 
 /// A number is read exactly where it stands in its one spelling.

@@ -44,9 +44,6 @@ loops_length s = loops_length_from 0 s.rings
 
 module _ {X Y : Type 0} (o : Result X Refusal) (f : X → Y) where
   -- what an answer tells of what it was made from
-  pub made_from_err : (e : Refusal) → Err e ≡ and_then o (λ x. Ok (f x)) → o ≡ Err e
-  made_from_err e = elim o as (λ o. Err e ≡ and_then o (λ x. Ok (f x)) → o ≡ Err e) [ Ok x ↦ λ h. cc | Err e' ↦ λ h. cc ]
-
   pub made_from_ok : (y : Y) → Ok y ≡ and_then o (λ x. Ok (f x)) → (x : X) × (o ≡ Ok x) × (y ≡ f x)
   made_from_ok y =
       elim o as (λ o. Ok y ≡ and_then o (λ x. Ok (f x)) → (x : X) × (o ≡ Ok x) × (y ≡ f x))

@@ -2,7 +2,8 @@
 use Rattle.std.proofs.Common.{◌≡◌, ℕ, zero, suc, ◌+◌, List, [], ◌∷◌, length, Some, None, Option, refl}
 use Rattle.std.specs.List.{slice_get}
 use Rattle.sheet.specs.Sheets.{Ring, loops_from}
-use Rattle.sheet.specs.Wordings.{numeral_at, numeral_in, numeral_of, numeral_of_entry, some_numeral}
+use Rattle.sheet.specs.Wordings.{numeral_at, numeral_in, numeral_of, numeral_of_entry}
+use Rattle.sheet.specs.Numerals.{some_numeral}
 
 told : (start : ℕ) (rs : List Ring) (l : ℕ) → numeral_of_entry (slice_get (loops_from start rs) l) ≡ some_numeral (numeral_at rs l)
 told start [] l = refl

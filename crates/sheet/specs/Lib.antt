@@ -4,3 +4,4 @@ pub mod Files
 pub mod Load
 pub mod Wordings
 pub mod Legal
+pub mod Numerals

@@ -10,6 +10,7 @@ use Rattle.sheet.specs.declared.tables.Loop.{Loop}
 use Rattle.sheet.specs.Files.{contents, find}
 use Rattle.reader.specs.Kinds.{part}
 use Rattle.reader.specs.Reading.{and_then}
+use Rattle.sheet.specs.Numerals.{some_numeral}
 use Rattle.sheet.specs.Sheets.{Ring}
 
 -- the numeral of a loop by its number, and 0 past the last loop
@@ -32,10 +33,6 @@ numeral_of rs (Some l) = numeral_at rs l
 -- the label of a numeral; 0 means that there is none
 abbrev pub label_of : ℕ → List Label → Option Label
 label_of m ls = cond (m == 0) None (find m ls)
-
--- a numeral, where it is not 0
-abbrev pub some_numeral : ℕ → Option ℕ
-some_numeral m = cond (m == 0) None (Some m)
 
 -- the numeral of a table's entry, where it has one
 abbrev pub numeral_of_entry : Option Loop → Option ℕ

@@ -1,6 +1,6 @@
 //! The sheet itself, read into lists that may have no room: a first reading looks only for faults.
 ghost use Rattle.std.specs.Prelude.{◌≡◌, ◌+◌, ◌≤◌, [], ◌∷◌, length, IfOk};
-ghost use Rattle.lent.specs.Kept.{kept_in, puts};
+ghost use Rattle.lent.specs.Kept.{kept_in, puts, SameSlice};
 ghost use Rattle.std.specs.List.{flat_map};
 ghost use Rattle.sheet.specs.Files.{head, ring, sheet};
 ghost use Rattle.reader.specs.Kinds.{corner, vertex};
@@ -18,7 +18,7 @@ use refusal::Refusal;
 // Puts each of the items behind the last of a list, as far as it has room.
 fn append_all<T: Copy>(list: &mut LentList<'_, T>, items: &[T])
     ensures kept { kept_in list.new ≡ puts (kept_in list.old) items.now }
-    ensures lent { list.new.items.ghost_name ≡ list.old.items.ghost_name }
+    ensures lent { SameSlice list.old list.new }
 {
     for item in items {
         let _ = list.append(*item);
@@ -26,6 +26,9 @@ fn append_all<T: Copy>(list: &mut LentList<'_, T>, items: &[T])
 }
 
 // The inner vertices, behind the points that the list has.
+// Here and below a loop, and no function with a closure that reads one thing: the closure would change a list that it borrows, and its
+// contract would be this loop's invariant over again. Nor is a reader one struct with what it fills, or with a size: each reading takes
+// what it needs of these, two or three at most.
 fn read_vertices(
     reader: &mut Reader<'_>,
     count: u16,
@@ -35,7 +38,7 @@ fn read_vertices(
 ) -> Result<(), Refusal>
     ensures read { Passed (λ file. several (λ _. vertex width height file) [] count) result reader.old reader.new
         (λ vs _. (kept_in points.new ≡ puts (kept_in points.old) vs) × (length vs ≡ count)) }
-    ensures lent { points.new.items.ghost_name ≡ points.old.items.ghost_name }
+    ensures lent { SameSlice points.old points.new }
 {
     for _done in 0..count {
         let point = reader.vertex(width, height)?;
@@ -54,7 +57,7 @@ fn link_corners(
 ) -> Result<(), Refusal>
     ensures read { Passed (λ file. several (λ _. corner vertices file) (first ∷ []) more) result reader.old reader.new
         (λ cs _. (kept_in edges.new ≡ puts (kept_in edges.old) (ring_edges cs)) × (length cs ≡ more + 1)) }
-    ensures lent { edges.new.items.ghost_name ≡ edges.old.items.ghost_name }
+    ensures lent { SameSlice edges.old edges.new }
 {
     let mut last = first;
     for _done in 0..more {
@@ -82,7 +85,7 @@ fn read_corners(
     requires { 3 ≤ count }
     ensures read { Passed (λ file. several (λ _. corner vertices file) [] count) result reader.old reader.new
         (λ cs _. (kept_in edges.new ≡ puts (kept_in edges.old) (ring_edges cs)) × (length cs ≡ count)) }
-    ensures lent { edges.new.items.ghost_name ≡ edges.old.items.ghost_name }
+    ensures lent { SameSlice edges.old edges.new }
 {
     let first = reader.corner(vertices)?;
     link_corners(reader, vertices, first, count - 1, edges)
@@ -98,7 +101,7 @@ fn read_loop(
 ) -> Result<Loop, Refusal>
     ensures read { Passed (ring vertices start) result reader.old reader.new
         (λ x y. (y ≡ entry start x) × (start + y.corners ≤ 6150) × (kept_in edges.new ≡ puts (kept_in edges.old) (ring_edges x.corners))) }
-    ensures lent { edges.new.items.ghost_name ≡ edges.old.items.ghost_name }
+    ensures lent { SameSlice edges.old edges.new }
 {
     let numeral = reader.numeral()?;
     let corners = reader.corner_count(vertices, start)?;
@@ -122,8 +125,8 @@ fn read_loops(
         (λ rs y. (y ≡ corners_in rs) × (length rs ≡ count)
         × (kept_in edges.new ≡ puts (kept_in edges.old) (flat_map (λ r. ring_edges r.corners) rs))
         × (kept_in loops.new ≡ puts (kept_in loops.old) (loops_from 0 rs))) }
-    ensures edges_lent { edges.new.items.ghost_name ≡ edges.old.items.ghost_name }
-    ensures loops_lent { loops.new.items.ghost_name ≡ loops.old.items.ghost_name }
+    ensures edges_lent { SameSlice edges.old edges.new }
+    ensures loops_lent { SameSlice loops.old loops.new }
 {
     let mut start = 0;
     for _done in 0..count {
@@ -160,7 +163,7 @@ const OUTSIDE: [Edge; 4] = [
 ];
 
 /// Reads a sheet, and puts its points, edges and loops behind those that the lists have, as far as these have room.
-// Three lists, and no struct of them: of a slice that is lent two structs deep the check knows how long it ends, and not as what.
+// Three lists, and no struct of them: tried: of a slice that is lent two structs deep the check knows how long it is at the end, and not what it holds.
 #[tactic(auto, unfolding(crate::specs::Files::sheet))]
 pub(crate) fn read_sheet(
     reader: &mut Reader<'_>,
@@ -173,9 +176,9 @@ pub(crate) fn read_sheet(
         × (kept_in points.new ≡ puts (kept_in points.old) (points_of s))
         × (kept_in edges.new ≡ puts (kept_in edges.old) (edges_of s))
         × (kept_in loops.new ≡ puts (kept_in loops.old) (loops_of s))) }
-    ensures points_lent { points.new.items.ghost_name ≡ points.old.items.ghost_name }
-    ensures edges_lent { edges.new.items.ghost_name ≡ edges.old.items.ghost_name }
-    ensures loops_lent { loops.new.items.ghost_name ≡ loops.old.items.ghost_name }
+    ensures points_lent { SameSlice points.old points.new }
+    ensures edges_lent { SameSlice edges.old edges.new }
+    ensures loops_lent { SameSlice loops.old loops.new }
 {
     let Head {
         width,

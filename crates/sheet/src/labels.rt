@@ -10,8 +10,7 @@ use refusal::{Cause, Refusal};
 
 // One label; the flags mark the numerals of those before it, and then its own too.
 #[tactic(auto, unfolding(crate::specs::Files::label))]
-fn read_label(reader: &mut Reader<'_>, seen: &mut [bool]) -> Result<Label, Refusal>
-    requires { length seen.old ≡ 256 }
+fn read_label(reader: &mut Reader<'_>, seen: &mut [bool; 256]) -> Result<Label, Refusal>
     ensures value { (before : List LabelOf) → Marked seen.old before → placed result reader.new.at ≡ label_of reader.old.file.now before reader.old.at }
     ensures seen { IfOk result (λ l. (l.numeral < 256) × (slice_index_or seen.old l.numeral false ≡ false) × (seen.new ≡ slice_set seen.old l.numeral true)) }
     ensures within { IfOk result (λ l. l.place + l.length ≤ length reader.old.file.now) }
@@ -19,13 +18,13 @@ fn read_label(reader: &mut Reader<'_>, seen: &mut [bool]) -> Result<Label, Refus
 {
     let at = reader.place();
     let numeral = reader.label_numeral()?;
-    if seen[numeral as usize] {
+    if seen[usize::from(numeral)] {
         return Err(fault(Cause::BadNumeral, at));
     }
     let length = reader.wording_length()?;
     let place = reader.place();
     let _text = reader.wording(length)?;
-    seen[numeral as usize] = true;
+    seen[usize::from(numeral)] = true;
     Ok(Label {
         numeral,
         place,

@@ -16,11 +16,18 @@ use plane::{Edge, Point};
 use reader::{Reader, fault};
 use refusal::{Cause, Refusal};
 
+/// The least lengths of the tables of points, edges and loops.
+pub const LEAST_POINTS: usize = 1028;
+
+pub const LEAST_EDGES: usize = 6154;
+
+pub const LEAST_LOOPS: usize = 2050;
+
 /// Whether the tables have room for every sheet that a file can describe.
 pub fn have_room(points: &[Point], edges: &[Edge], loops: &[Loop]) -> bool
     ensures { result ≡ roomy (length points.now) (length edges.now) (length loops.now) }
 {
-    points.len() >= 1028 && edges.len() >= 6154 && loops.len() >= 2050
+    points.len() >= LEAST_POINTS && edges.len() >= LEAST_EDGES && loops.len() >= LEAST_LOOPS
 }
 
 // A reading that keeps nothing: its lists have no room.
@@ -71,8 +78,8 @@ fn take(
 }
 
 /// Takes the sheet of a file into the tables and answers its size; a refused file leaves them as they are.
-// Three slices, here and on the board, and no struct of them: once such a struct ends, the check knows no more of a caller's slices than
-// how long they are.
+// Three slices and no struct of them, here and on the board (tried: once such a struct ends, the check knows of a caller's slices how long
+// they are, and not what they hold); and a clause for each, since a record of the three clauses would be about six lists.
 pub fn load(
     file: &[u8],
     points: &mut [Point],

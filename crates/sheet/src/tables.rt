@@ -1,4 +1,6 @@
 //! What the caller's tables hold.
+ghost use Rattle.std.specs.Prelude.{◌≡◌};
+ghost use Rattle.sheet.specs.Numerals.{some_numeral as numeral_where_some};
 /// A loop: its numeral, the position of its first edge in the edge list, and how many corners it has.
 // Plain numbers, since the table is the caller's: 0 where there is no numeral, and positions in place of a slice of edges.
 #[derive(Clone, Copy, PartialEq, Eq, Debug, Default)]
@@ -8,7 +10,17 @@ pub struct Loop {
     pub corners: u16,
 }
 
+impl Loop {
+    /// The loop's numeral, where it has one.
+    pub fn some_numeral(&self) -> Option<u16>
+        ensures { result ≡ numeral_where_some self.now.numeral }
+    {
+        (self.numeral != 0).then_some(self.numeral)
+    }
+}
+
 /// How large a sheet is, and how many of each kind it has.
+// These counts stand beside the tables and not in them: the tables are the caller's, and longer.
 #[derive(Clone, Copy, PartialEq, Eq, Debug, Default)]
 pub struct Size {
     pub width: u16,
@@ -27,7 +39,7 @@ pub struct Head {
 }
 
 /// A label: its numeral, and where its wording stands in the file.
-// A place and a length, and no slice: the place is part of what `wording` answers, which makes the slice once.
+// A place and a length, as the definitions have them, and no slice: a slice would have to be tied to the file in each clause.
 #[derive(Clone, Copy)]
 pub struct Label {
     pub numeral: u16,

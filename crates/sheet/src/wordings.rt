@@ -5,7 +5,8 @@ ghost use Rattle.lent.specs.Kept.{elements, kept_in};
 ghost use Rattle.sheet.specs.Files.{contents, sheet as sheet_at, Within};
 ghost use Rattle.reader.specs.Reading.{and_then};
 ghost use Rattle.reader.specs.Steps.{Passed};
-ghost use Rattle.sheet.specs.Wordings.{face_of_answer, label_of, numeral_in, numeral_of, some_numeral, wording_said};
+ghost use Rattle.sheet.specs.Numerals.{some_numeral};
+ghost use Rattle.sheet.specs.Wordings.{face_of_answer, label_of, numeral_in, numeral_of, wording_said};
 
 use crate::answer::Answer;
 use crate::body::read_sheet;
@@ -37,8 +38,7 @@ fn face_of(answer: Answer) -> Option<u16>
 fn numeral_of_loop(loops: &LentList<'_, Loop>, face: Option<u16>) -> Option<u16>
     ensures { result ≡ numeral_in (elements (kept_in loops.now)) face }
 {
-    let entry = loops.read(face? as usize).ok()?;
-    (entry.numeral != 0).then_some(entry.numeral)
+    loops.read(usize::from(face?)).ok()?.some_numeral()
 }
 
 // Reads the sheet, and answers the numeral of a loop, where it has one.
@@ -72,7 +72,7 @@ pub fn wording<'a>(file: &'a [u8], answer: Answer) -> Result<Option<FilePart<'a>
     match find_label(file, face_of(answer))? {
         Some(label) => {
             let place = label.place;
-            let bytes = &file[place..place + label.length as usize];
+            let bytes = &file[place..place + usize::from(label.length)];
             Ok(Some(FilePart { place, bytes }))
         }
         None => Ok(None),

@@ -4,16 +4,22 @@ use std::fmt::Display;
 use std::num::ParseIntError;
 use std::str::{FromStr, Split};
 
-// A tip in the words of a command.
+// What the next words of a command stand for; none where one is no number of its type. It is no `FromStr`, since each takes several words.
 trait Spelled: Sized {
-    // The tip that the next words stand for; none where one is no number of its type.
     fn read(words: &mut Split<'_, char>) -> Option<Self>;
+}
+
+impl Spelled for Point {
+    fn read(words: &mut Split<'_, char>) -> Option<Point> {
+        let x = read_number(words)?;
+        let y = read_number(words)?;
+        Some(Point { x, y })
+    }
 }
 
 impl Spelled for WholeTip {
     fn read(words: &mut Split<'_, char>) -> Option<WholeTip> {
-        let x = read_number(words)?;
-        let y = read_number(words)?;
+        let Point { x, y } = Point::read(words)?;
         Some(WholeTip { x, y })
     }
 }
@@ -34,6 +40,21 @@ struct Frame {
     height: u16,
     from: Point,
     to: Point,
+}
+
+impl Spelled for Frame {
+    fn read(words: &mut Split<'_, char>) -> Option<Frame> {
+        let width = read_number(words)?;
+        let height = read_number(words)?;
+        let from = Point::read(words)?;
+        let to = Point::read(words)?;
+        Some(Frame {
+            width,
+            height,
+            from,
+            to,
+        })
+    }
 }
 
 /// Plays a command on one tip, and prints its outcome.
@@ -57,7 +78,7 @@ fn tell<T: Kernel + Spelled + Drop>(
     rt: &HostRuntime,
     words: &mut Split<'_, char>,
 ) -> anyhow::Result<()> {
-    let (Some(tip), Some(frame)) = (T::read(words), read_frame(words)) else {
+    let (Some(tip), Some(frame)) = (T::read(words), Frame::read(words)) else {
         return Ok(rt.println("no such number")?);
     };
     let fit = if tip.fit() { "fit" } else { "unfit" };
@@ -76,7 +97,7 @@ fn make<T: Kernel + Display + Drop>(
     rt: &HostRuntime,
     words: &mut Split<'_, char>,
 ) -> anyhow::Result<()> {
-    let Some(at) = read_point(words) else {
+    let Some(at) = Point::read(words) else {
         return Ok(rt.println("no such number")?);
     };
     match T::make(at) {
@@ -90,23 +111,4 @@ fn make<T: Kernel + Display + Drop>(
 
 fn read_number<N: FromStr<Err = ParseIntError>>(words: &mut Split<'_, char>) -> Option<N> {
     words.next()?.parse::<N>().ok()
-}
-
-fn read_point(words: &mut Split<'_, char>) -> Option<Point> {
-    let x = read_number(words)?;
-    let y = read_number(words)?;
-    Some(Point { x, y })
-}
-
-fn read_frame(words: &mut Split<'_, char>) -> Option<Frame> {
-    let width = read_number(words)?;
-    let height = read_number(words)?;
-    let from = read_point(words)?;
-    let to = read_point(words)?;
-    Some(Frame {
-        width,
-        height,
-        from,
-        to,
-    })
 }

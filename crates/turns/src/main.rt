@@ -8,6 +8,7 @@ use desk::LEAST;
 use std::io::{BufRead, BufReader};
 use table::Table;
 
+// As in `tips`: a crate that both programs share would be longer than this loop.
 fn run(rt: &HostRuntime) -> anyhow::Result<()> {
     let heap = rt.alloc();
     let mut table = Table::new(heap, LEAST)?;

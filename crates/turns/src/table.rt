@@ -26,6 +26,7 @@ impl Table {
     // A `match` and no table of functions: each command takes other words.
     pub(crate) fn play(&mut self, rt: &HostRuntime, line: &str) -> anyhow::Result<()> {
         let mut words = line.split(' ');
+        // By `match`: `words.next().unwrap_or("")` was tried, and the borrow checker does not cover it in a closure.
         let mut next = || match words.next() {
             Some(word) => word,
             None => "",
@@ -105,9 +106,9 @@ impl Table {
         } = &self.desk;
         let size = board.size();
         let outside = if size.width == 0 { 0 } else { 4 };
-        let points = points.iter().take(size.inner as usize + outside);
-        let edges = edges.iter().take(size.corners as usize + outside);
-        let loops = loops.iter().take(size.loops as usize);
+        let points = points.iter().take(usize::from(size.inner) + outside);
+        let edges = edges.iter().take(usize::from(size.corners) + outside);
+        let loops = loops.iter().take(usize::from(size.loops));
         let points_digest = digest(points.flat_map(|point| [point.x, point.y]));
         let edges_digest = digest(edges.flat_map(|edge| [edge.from, edge.to]));
         let loops_digest = digest(loops.flat_map(|entry| [
@@ -115,22 +116,18 @@ impl Table {
             entry.start,
             entry.corners,
         ]));
-        print_size(rt, size, board.live())?;
+        let Size {
+            width,
+            height,
+            inner,
+            loops,
+            corners,
+        } = size;
+        let live = board.live();
+        print!(rt; "ok {width} {height} {inner} {loops} {corners} {live} ")?;
         println!(rt; "points {points_digest} edges {edges_digest} loops {loops_digest}")?;
         Ok(())
     }
-}
-
-fn print_size(rt: &HostRuntime, size: Size, live: u16) -> anyhow::Result<()> {
-    let Size {
-        width,
-        height,
-        inner,
-        loops,
-        corners,
-    } = size;
-    print!(rt; "ok {width} {height} {inner} {loops} {corners} {live} ")?;
-    Ok(())
 }
 
 fn print_refusal(rt: &HostRuntime, refusal: Refusal) -> anyhow::Result<()> {
@@ -141,7 +138,7 @@ fn print_refusal(rt: &HostRuntime, refusal: Refusal) -> anyhow::Result<()> {
     Ok(())
 }
 
-// The answer that a kind and two numbers stand for.
+// The answer that a kind and two numbers stand for: the kinds are numbers here, since the words of a script are.
 fn answer_of(kind: &str, a: &str, b: &str) -> Option<Answer> {
     let a = a.parse::<u16>().ok()?;
     let b = b.parse::<u16>().ok()?;

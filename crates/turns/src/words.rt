@@ -36,9 +36,8 @@ pub(crate) fn digest<I: Iterator<Item = u16> + Drop>(numbers: I) -> u32
     requires can { I.can_next numbers }
     requires ends { IsFinite (I.remaining numbers) }
 {
-    let mut all = 0u32;
-    for number in numbers {
-        all = all.wrapping_mul(31).wrapping_add(u32::from(number));
-    }
-    all
+    numbers.fold(
+        0u32,
+        |all, number| all.wrapping_mul(31).wrapping_add(u32::from(number)),
+    )
 }

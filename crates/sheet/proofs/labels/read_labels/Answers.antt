@@ -1,5 +1,4 @@
-use Rattle.std.proofs.Common.{◌+◌, ◌≤◌, List, [], ◌∷◌, ◌++◌, length, Ok, sym, refl, ap, ◌∙◌, subst}
-use Rattle.std.proofs.lemmas.List.{length-set}
+use Rattle.std.proofs.Common.{◌≡◌, rules, ◌+◌, ◌≤◌, List, [], ◌∷◌, ◌++◌, length, Ok, sym, ap, ◌∙◌, subst}
 use Rattle.std.proofs.lemmas.Result.{err_from_is_err_and}
 use Rattle.sheet.specs.declared.tables.Label.{Label}
 use Rattle.sheet.specs.Files.{Within}
@@ -9,7 +8,7 @@ use Rattle.sheet.proofs.labels.read_labels.Goals as goal
 use Rattle.sheet.proofs.labels.read_labels.Goals.{then-eq, else-eq}
 
 pub loop-done-init : goal.loop-done-init
-loop-done-init c = (sofar_none _ _ _ _ _ _ (found_none _), refl, tt)
+loop-done-init c = (sofar_none _ _ _ _ _ _ (found_none _), tt)
 
 pub loop-done-preserved : goal.loop-done-preserved
 loop-done-preserved c =
@@ -18,7 +17,7 @@ loop-done-preserved c =
     let more : (done : List Label) → Found c.args.wanted c.loop-done.seen c.loop-done.found done
     → Found c.args.wanted c.read_label.new.seen c.if-eq.found (done ++ x ∷ []) =
     λ done f.
-    let long = c.loop-done.invariant.1 in
+    let long : length c.loop-done.seen ≡ 256 = search rules in
     elim c.if-eq.branch [
       | then-eq w ↦ found_here _ _ _ done f x l.seen.0 long l.seen.1 _ _ l.seen.2 (is_wanted _ _ (sym w.if-eq.true ∙ c.eq.ensures)) w.found-is
       | else-eq w ↦ rw w.found-is (found_other _ _ _ done f x l.seen.0 long l.seen.1 _ l.seen.2 (not_wanted _ _ (sym w.if-eq.false ∙ c.eq.ensures)))
@@ -26,10 +25,9 @@ loop-done-preserved c =
     let inside : Within c.count.new.self.file.now c.if-eq.found =
     elim c.if-eq.branch [
       | then-eq w ↦ rw w.found-is (subst (λ f. x.place + x.length ≤ length f) c.loop-done.invariant.0.file_same l.within)
-      | else-eq w ↦ rw w.found-is c.loop-done.invariant.2
+      | else-eq w ↦ rw w.found-is c.loop-done.invariant.1
     ] in (
       sofar_more _ c.loop-done.invariant.0 x _ _ _ c.loop-done-test.true (λ done f. l.value done f.marked) l.file more,
-      ap length l.seen.2 ∙ length-set _ _ _ ∙ c.loop-done.invariant.1,
       inside,
     )
 
