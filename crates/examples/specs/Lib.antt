@@ -1,1 +1,2 @@
 pub mod Spring
+pub mod SpringCells
