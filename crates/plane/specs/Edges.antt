@@ -1,9 +1,13 @@
 -- Directed edges between numbered vertices, the edges of a loop, and sums over lists of edges.
-use Rattle.std.specs.Prelude.{◌≡◌, ℕ, ◌⊎◌, List, [], ◌∷◌, ◌++◌, take, ℤ, pos, ◌+ℤ◌}
+use Rattle.std.specs.Prelude.{◌≡◌, ◌==◌, Bool, ◌&&◌, ℕ, ◌⊎◌, List, [], ◌∷◌, ◌++◌, take, ℤ, pos, ◌+ℤ◌}
 use Rattle.plane.specs.declared.Edge.{Edge}
 
 abbrev pub edge : ℕ → ℕ → Edge
 edge u v = record { from = u; to = v }
+
+-- two directed edges have the same ends
+abbrev pub same_edge : Edge → Edge → Bool
+same_edge e f = e.from == f.from && e.to == f.to
 
 -- the reverse
 abbrev pub back : Edge → Edge

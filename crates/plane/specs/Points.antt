@@ -1,5 +1,5 @@
 -- Points of the plane, on which side of a line a point is, and when it is in a segment or on a sheet.
-use Rattle.std.specs.Prelude.{Bool, cond, ◌&&◌, ◌||◌, ℤ, pos, negsuc, ◌+ℤ◌, ◌-ℤ◌, ◌*ℤ◌, int_le, int_lt}
+use Rattle.std.specs.Prelude.{◌==◌, Bool, cond, ◌&&◌, ◌||◌, ℤ, pos, negsuc, ◌+ℤ◌, ◌-ℤ◌, ◌*ℤ◌, int_le, int_lt}
 use Rattle.plane.specs.declared.Point.{Point}
 use Rattle.plane.specs.declared.Side.{Side}
 use Rattle.plane.specs.declared.Side.TheVariants.{Right, On, Left}
@@ -14,6 +14,10 @@ pub record Spot : Type 0 where
   pub X : ℤ
   pub Y : ℤ
   pub Z : ℤ
+
+-- two points of a sheet are one
+abbrev pub same_point : Point → Point → Bool
+same_point a b = a.x == b.x && a.y == b.y
 
 abbrev pub grid_point : Point → GridPoint
 grid_point a = record { x = pos a.x; y = pos a.y }

@@ -4,13 +4,15 @@
 ghost use Rattle.std.specs.Prelude.{◌≡◌};
 ghost use Rattle.plane.specs.Identities.{Identities};
 ghost use Rattle.plane.specs.Kernels.{within_reach};
-ghost use Rattle.plane.specs.Points.{side_number};
+ghost use Rattle.plane.specs.Edges.{same_edge};
+ghost use Rattle.plane.specs.Points.{same_point, side_number};
 
 mod determinant;
 mod kernel;
 mod rational;
 mod whole;
 
+use clash::Clash;
 pub use kernel::Kernel;
 pub use rational::RationalTip;
 pub use whole::WholeTip;
@@ -31,11 +33,29 @@ impl Point {
     }
 }
 
+/// Two vertices at one point clash.
+impl Clash for Point {
+    ghost clashes = { same_point };
+
+    fn clashes_with(&self, earlier: &Point) -> bool {
+        self == earlier
+    }
+}
+
 /// A directed edge, by its vertices.
 #[derive(Clone, Copy, PartialEq, Eq, Debug, Default)]
 pub struct Edge {
     pub from: u16,
     pub to: u16,
+}
+
+/// Two directed edges with the same ends clash.
+impl Clash for Edge {
+    ghost clashes = { same_edge };
+
+    fn clashes_with(&self, earlier: &Edge) -> bool {
+        self == earlier
+    }
 }
 
 /// On which side of a line a tip is, as one looks along the line.
