@@ -1,0 +1,3 @@
+pub mod Rules
+pub mod Planes
+pub mod Broken
