@@ -1,3 +1,10 @@
-pub mod Elements
 pub mod Nothing
+pub mod Elements
 pub mod Orders
+pub mod Drawn
+pub mod Lines
+pub mod Sharing
+pub mod Parting
+pub mod Apart
+pub mod Rows
+pub mod Held

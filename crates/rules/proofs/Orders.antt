@@ -83,13 +83,13 @@ joined_map : {X Y Z : Type 0} (f : X → Y) (g : Y → List Z) (xs : List X) →
 joined_map f g [] = refl
 joined_map f g (x ∷ xs) = ap (λ zs. g (f x) ++ zs) (joined_map f g xs)
 
-listed_edges : (s : Sheet) → edges_of s ≡ listed (plane_of s)
+pub listed_edges : (s : Sheet) → edges_of s ≡ listed (plane_of s)
 listed_edges s = ap (λ es. es ++ outside) (sym (joined_map (λ (r : Ring). r.corners) ring_edges s.rings))
 
 same_edge_itself : (e : Edge) → same_edge e e ≡ true
 same_edge_itself e = and_from (eqb e.from e.from) (eqb e.to e.to) (eq-eqb e.from e.from refl) (eq-eqb e.to e.to refl)
 
-same_edge_true : (e f : Edge) → same_edge e f ≡ true → f ≡ e
+pub same_edge_true : (e f : Edge) → same_edge e f ≡ true → f ≡ e
 same_edge_true e f h =
     let p = and_parts (eqb e.from f.from) (eqb e.to f.to) h in
     let a = sym (eqb-true e.from f.from p.0) in

@@ -1,3 +1,6 @@
 pub mod Rules
 pub mod Planes
 pub mod Broken
+pub mod Held
+pub mod Tables
+pub mod Apart

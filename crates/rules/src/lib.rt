@@ -1,15 +1,27 @@
 //! The rules of a sheet, and what holds of a sheet that keeps them.
 #![tactic(auto)]
 
+ghost use Rattle.rules.specs.Apart.{CheckedLiesApart};
 ghost use Rattle.rules.specs.Broken.{RuleExamples};
 ghost use Rattle.rules.specs.Planes.{CheckedIsInOrder};
+ghost use Rattle.rules.specs.Tables.{TablesTell};
 
 /// A sheet within its limits that keeps the rules is a subdivision of the plane in order.
 pub fn checked_is_in_order()
     ensures { CheckedIsInOrder }
 {}
 
+/// In such a sheet no vertex is inside an edge, no two edges share a point inside both, and every vertex is an end of an edge.
+pub fn checked_lies_apart()
+    ensures { CheckedLiesApart }
+{}
+
 /// The worked examples of the rules follow from the definitions: for each rule there is a sheet that breaks it first.
 pub fn rule_examples_stand()
     ensures { RuleExamples }
+{}
+
+/// What the tables of a sheet break is what the sheet breaks.
+pub fn tables_tell_stands()
+    ensures { TablesTell }
 {}

@@ -20,7 +20,7 @@ each P h i j k e (inr (inr (inl q))) = subst P (sym q) j
 each P h i j k e (inr (inr (inr (inl q)))) = subst P (sym q) k
 each P h i j k e (inr (inr (inr (inr n)))) = absurd n
 
-weak : {u v : ℤ} → u <ℤ v → u ≤ℤ v
+pub weak : {u v : ℤ} → u <ℤ v → u ≤ℤ v
 weak h = omega lin
 
 module _ (s : Subdivision) (o : InOrder s) where

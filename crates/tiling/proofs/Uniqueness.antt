@@ -21,7 +21,7 @@ use Rattle.tiling.proofs.Sheets.{all, ends_named, inner, inner_back, listed_inne
 
 -- ---- a whole point as a spot, and a point between two
 
-at_spot : (a : GridPoint) → At a (spot_at a)
+pub at_spot : (a : GridPoint) → At a (spot_at a)
 at_spot a = record { level_x = one a.x; level_y = one a.y }
   where
     one : (x : ℤ) → x ≡ x *ℤ pos 1
@@ -36,7 +36,7 @@ det_at u v a p h =
     (detˢ aˢ bˢ (record { X = cˢ.x ⊗ pˢ.Z; Y = cˢ.y ⊗ pˢ.Z; Z = pˢ.Z })) (pˢ.Z ⊗ detˢ aˢ bˢ (spot_atˢ cˢ)) tt
 
 -- the side of a point between a and b weighs those of a and b
-det_between : (u v a b : GridPoint) (p : Spot)
+pub det_between : (u v a b : GridPoint) (p : Spot)
     → ahead a b (spot_at b) *ℤ det u v p
     ≡ ahead b a p *ℤ det u v (spot_at a) +ℤ ahead a b p *ℤ det u v (spot_at b) +ℤ along (v.x -ℤ u.x) (v.y -ℤ u.y) a (spot_at b) *ℤ det a b p
 unfolding along det same?
