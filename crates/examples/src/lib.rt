@@ -15,4 +15,6 @@ pub fn cell_examples_stand()
 {}
 
 #[cfg(test)]
+mod rule_tests;
+#[cfg(test)]
 mod tests;

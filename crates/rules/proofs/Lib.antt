@@ -8,3 +8,7 @@ pub mod Parting
 pub mod Apart
 pub mod Rows
 pub mod Held
+pub mod Positions
+pub mod Twice
+pub mod Boxes
+pub mod Listing

@@ -4,3 +4,5 @@ pub mod Broken
 pub mod Held
 pub mod Tables
 pub mod Apart
+pub mod Segments
+pub mod Strokes

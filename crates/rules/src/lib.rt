@@ -6,6 +6,17 @@ ghost use Rattle.rules.specs.Broken.{RuleExamples};
 ghost use Rattle.rules.specs.Planes.{CheckedIsInOrder};
 ghost use Rattle.rules.specs.Tables.{TablesTell};
 
+mod broken;
+mod corners;
+mod counts;
+mod listed;
+mod segments;
+mod strokes;
+mod turns;
+
+pub use broken::first_broken;
+pub use strokes::Stroke;
+
 /// A sheet within its limits that keeps the rules is a subdivision of the plane in order.
 pub fn checked_is_in_order()
     ensures { CheckedIsInOrder }

@@ -1,0 +1,65 @@
+//! The rule over the areas of the loops.
+ghost use Rattle.std.specs.Prelude.{◌≡◌, ◌≤◌, ◌<◌, ◌^◌, ◌*◌, int_lt, length, pos, slice_index_or, unsigned_abs};
+ghost use Rattle.plane.specs.Edges.{sum};
+ghost use Rattle.rules.specs.Held.{loop_edges as loop_edges_of, turns_broken_at};
+ghost use Rattle.rules.specs.Rules.{place_of, swept as swept_by};
+ghost use Rattle.sheet.specs.Sheets.{point};
+
+use crate::corners::loop_edges;
+use plane::{Edge, Point};
+use sheet::Loop;
+
+// Where a vertex is: at (0, 0) where there is no such vertex.
+pub(crate) fn place(points: &[Point], vertex: u16) -> Point
+    ensures { result ≡ slice_index_or points.now vertex (point 0 0) }
+{
+    points
+        .get(usize::from(vertex))
+        .copied()
+        .unwrap_or(Point { x: 0, y: 0 })
+}
+
+// Twice the area that an edge sweeps from the sheet's corner (0, 0).
+fn swept(points: &[Point], edge: Edge) -> i64
+    ensures value { result ≡ swept_by (place_of points.now) edge }
+    ensures bound { unsigned_abs result < 2 ^ 32 }
+{
+    let a = place(points, edge.from);
+    let b = place(points, edge.to);
+    product(a.x, b.y) - product(b.x, a.y)
+}
+
+fn product(u: u16, v: u16) -> i64
+    ensures value { result ≡ pos (u * v) }
+    ensures bound { u * v < 2 ^ 32 }
+{
+    i64::from(u32::from(u) * u32::from(v))
+}
+
+// Twice the signed area inside a loop's edges.
+fn signed_area(points: &[Point], edges: &[Edge]) -> i64
+    requires { length edges.now ≤ 65535 }
+    ensures { result ≡ sum (swept_by (place_of points.now)) edges.now }
+{
+    let mut area = 0;
+    for edge in edges {
+        area += swept(points, *edge);
+    }
+    area
+}
+
+// Whether a loop's signed area is above 0.
+fn is_turned_left(points: &[Point], edges: &[Edge], item: &Loop) -> bool
+    ensures { result ≡ int_lt (pos 0) (sum (swept_by (place_of points.now)) (loop_edges_of edges.now item.now)) }
+{
+    0 < signed_area(points, loop_edges(edges, item))
+}
+
+// Rule 20: every loop's signed area is above 0.
+pub(crate) fn turns_broken(points: &[Point], edges: &[Edge], loops: &[Loop]) -> Option<usize>
+    ensures { result ≡ turns_broken_at points.now edges.now loops.now }
+{
+    loops
+        .iter()
+        .position(|item| !is_turned_left(points, edges, item))
+}
