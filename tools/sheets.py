@@ -86,3 +86,30 @@ def largest():
     labels = [(m, bytes(32 + (m * 7 + j * 11) % 95 for j in range(63)))
               for m in numerals]
     return file(8191, 8191, inner, loops, labels)
+
+
+def grid(side, triangles):
+    """A sheet of 8,000 by 8,000 with side by side inner vertices.
+
+    Their squares are faces, and four loops lie about them; or each loop is
+    cut into triangles, those about the squares from a corner of the sheet.
+    """
+    step = 8000 // side
+    inner = [(step // 2 + step * i, step // 2 + step * j)
+             for j in range(side) for i in range(side)]
+
+    def at(i, j):
+        return 4 + side * j + i
+
+    span = range(side - 1)
+    loops = [[at(i, j), at(i + 1, j), at(i + 1, j + 1), at(i, j + 1)]
+             for j in span for i in span]
+    last = side - 1
+    loops += [[0, 1] + [at(last - i, 0) for i in range(side)],
+              [1, 2] + [at(last, last - j) for j in range(side)],
+              [2, 3] + [at(i, last) for i in range(side)],
+              [3, 0] + [at(0, j) for j in range(side)]]
+    if triangles:
+        loops = [[loop[0], b, c]
+                 for loop in loops for b, c in zip(loop[1:], loop[2:])]
+    return file(8000, 8000, inner, [(0, loop) for loop in loops], [])

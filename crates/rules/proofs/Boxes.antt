@@ -377,3 +377,22 @@ only_near false false h = refl
 -- boxes that are apart tell it alone
 pub apart_never_meet : (a b c d : Point) → meet_at a b c d ≡ (boxes_meet a b c d && meet_at a b c d)
 apart_never_meet a b c d = only_near (meet_at a b c d) (boxes_meet a b c d) (meet_is_near a b c d)
+
+-- and they are never apart where an end is shared
+range_of : (u v : ℕ) → in_range u v u ≡ true
+range_of u v = and_from _ _ (le_test (min u v) u (omega arith)) (le_test u (max u v) (omega arith))
+
+range_to : (u v : ℕ) → in_range u v v ≡ true
+range_to u v = and_from _ _ (le_test (min u v) v (omega arith)) (le_test v (max u v) (omega arith))
+
+pub starts_shared : (a b d : Point) → boxes_meet a b a d ≡ true
+starts_shared a b d = and_from _ _ (meets_first a.x b.x a.x a.x d.x (range_of a.x b.x) (omega arith) (omega arith)) (meets_first a.y b.y a.y a.y d.y (range_of a.y b.y) (omega arith) (omega arith))
+
+pub start_is_end : (a b c : Point) → boxes_meet a b c a ≡ true
+start_is_end a b c = and_from _ _ (meets_first a.x b.x a.x c.x a.x (range_of a.x b.x) (omega arith) (omega arith)) (meets_first a.y b.y a.y c.y a.y (range_of a.y b.y) (omega arith) (omega arith))
+
+pub end_is_start : (a b d : Point) → boxes_meet a b b d ≡ true
+end_is_start a b d = and_from _ _ (meets_first a.x b.x b.x b.x d.x (range_to a.x b.x) (omega arith) (omega arith)) (meets_first a.y b.y b.y b.y d.y (range_to a.y b.y) (omega arith) (omega arith))
+
+pub ends_shared : (a b c : Point) → boxes_meet a b c b ≡ true
+ends_shared a b c = and_from _ _ (meets_first a.x b.x b.x c.x b.x (range_to a.x b.x) (omega arith) (omega arith)) (meets_first a.y b.y b.y c.y b.y (range_to a.y b.y) (omega arith) (omega arith))

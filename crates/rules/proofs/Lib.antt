@@ -9,6 +9,7 @@ pub mod Apart
 pub mod Rows
 pub mod Held
 pub mod Positions
+pub mod Searches
 pub mod Twice
 pub mod Boxes
 pub mod Listing

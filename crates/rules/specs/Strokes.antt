@@ -1,5 +1,5 @@
 -- The edges of a sheet with where their ends are, and when two of them touch.
-use Rattle.std.specs.Prelude.{◌≡◌, ◌≤◌, ℕ, Bool, cond, ◌==◌, List, [], length, map, nat_lt, slice_index_or, Option, Ok, Err, Result, is_some}
+use Rattle.std.specs.Prelude.{◌≡◌, ◌≤◌, ℕ, Bool, cond, ◌==◌, ◌&&◌, List, [], length, map, nat_lt, slice_index_or, Option, Ok, Err, Result, is_some}
 use Rattle.plane.specs.declared.Point.{Point}
 use Rattle.plane.specs.declared.Edge.{Edge}
 use Rattle.refusal.specs.declared.Cause.{Cause}
@@ -10,7 +10,7 @@ use Rattle.sheet.specs.Sheets.{point}
 use Rattle.rules.specs.declared.strokes.Stroke.{Stroke}
 use Rattle.rules.specs.Held.{edges_broken_at, first_broken_at, loops_broken_at, points_broken_at, reverses_broken_at, strokes_broken_at, sum_broken_at, turns_broken_at, vertices_broken_at}
 use Rattle.rules.specs.Rules.{first_listed, or_else, told}
-use Rattle.rules.specs.Segments.{meet_at, overlap_at}
+use Rattle.rules.specs.Segments.{boxes_meet, meet_at, overlap_at}
 
 -- a vertex, or (0, 0) where there is no such vertex
 abbrev pub stroke_of : List Point → Edge → Stroke
@@ -21,13 +21,17 @@ abbrev pub strokes_of : List Point → List Edge → List Stroke
 strokes_of ps es = map (stroke_of ps) (first_listed [] es)
 
 -- two strokes may not stand together
-abbrev pub strokes_touch : Stroke → Stroke → Bool
-strokes_touch s t =
+abbrev pub strokes_join : Stroke → Stroke → Bool
+strokes_join s t =
     cond (s.edge.from == t.edge.from) (overlap_at s.start s.end t.end)
     (cond (s.edge.from == t.edge.to) (overlap_at s.start s.end t.start)
     (cond (s.edge.to == t.edge.from) (overlap_at s.end s.start t.end)
     (cond (s.edge.to == t.edge.to) (overlap_at s.end s.start t.start)
     (meet_at s.start s.end t.start t.end))))
+
+-- the same, for strokes that have the places of their edges' ends: these are apart where their boxes are
+abbrev pub strokes_touch : Stroke → Stroke → Bool
+strokes_touch s t = boxes_meet s.start s.end t.start t.end && strokes_join s t
 
 -- how many strokes there are, where there is room for so many
 abbrev pub room_said : ℕ → List Stroke → Result ℕ Cause

@@ -13,16 +13,8 @@ pub(crate) fn overlap(u: Point, v: Point, w: Point) -> bool
     lies_on(u, w, v) || lies_on(u, v, w)
 }
 
-// Whether the segments from `a` to `b` and from `c` to `d` share a point. Most pairs are told apart by their boxes alone.
-#[tactic(auto, using(crate::proofs::Boxes::apart_never_meet))]
+// Whether the segments from `a` to `b` and from `c` to `d` share a point.
 pub(crate) fn meet(a: Point, b: Point, c: Point, d: Point) -> bool
-    ensures { result ≡ meet_at a b c d }
-{
-    boxes_meet(a, b, c, d) && near_meet(a, b, c, d)
-}
-
-// The same, without boxes.
-fn near_meet(a: Point, b: Point, c: Point, d: Point) -> bool
     ensures { result ≡ meet_at a b c d }
 {
     (lies_on(a, b, c) || lies_on(a, b, d))
@@ -75,7 +67,7 @@ fn in_range(u: u16, v: u16, x: u16) -> bool
 }
 
 // Whether the box of `a` and `b` has a point in common with that of `c` and `d`.
-fn boxes_meet(a: Point, b: Point, c: Point, d: Point) -> bool
+pub(crate) fn boxes_meet(a: Point, b: Point, c: Point, d: Point) -> bool
     ensures { result ≡ boxes_meet_of a b c d }
 {
     ranges_meet(a.x, b.x, c.x, d.x) && ranges_meet(a.y, b.y, c.y, d.y)

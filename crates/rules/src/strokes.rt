@@ -2,10 +2,10 @@
 ghost use Rattle.std.specs.Prelude.{◌≡◌, IfOk, length, take};
 ghost use Rattle.clash.specs.Clashes.{first_clash_in};
 ghost use Rattle.rules.specs.Rules.{later_of};
-ghost use Rattle.rules.specs.Strokes.{room_said, stroke_of, strokes_of, strokes_said, strokes_touch};
+ghost use Rattle.rules.specs.Strokes.{room_said, stroke_of, strokes_join, strokes_of, strokes_said, strokes_touch};
 
-use crate::listed::{back, is_listed};
-use crate::segments::{meet, overlap};
+use crate::listed::{back, is_behind};
+use crate::segments::{boxes_meet, meet, overlap};
 use crate::turns::place;
 use clash::{Clash, first_clash};
 use plane::{Edge, Point};
@@ -23,7 +23,17 @@ pub struct Stroke {
 impl Clash for Stroke {
     ghost clashes = { strokes_touch };
 
+    // Most pairs are told apart by their boxes alone, without a product.
     fn clashes_with(&self, earlier: &Stroke) -> bool {
+        boxes_meet(self.start, self.end, earlier.start, earlier.end) && self.joins(earlier)
+    }
+}
+
+impl Stroke {
+    // The same, without boxes.
+    fn joins(&self, earlier: &Stroke) -> bool
+        ensures { result ≡ strokes_join self.now earlier.now }
+    {
         if self.edge.from == earlier.edge.from {
             overlap(self.start, self.end, earlier.end)
         } else if self.edge.from == earlier.edge.to {
@@ -56,7 +66,7 @@ fn draw(points: &[Point], edges: &[Edge], strokes: &mut [Stroke]) -> Result<usiz
 {
     let mut count = 0;
     for (i, edge) in edges.iter().enumerate() {
-        if !is_listed(&edges[..i], back(*edge)) {
+        if !is_behind(&edges[..i], back(*edge)) {
             if count >= strokes.len() {
                 return Err(Cause::TableTooShort);
             }
