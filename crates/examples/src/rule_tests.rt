@@ -1,11 +1,12 @@
 use board::{Board, LEAST_LIVE};
 use plane::{Edge, Point};
+use refusal::{Cause, Layer, Refusal};
 use rules::{Stroke, first_broken};
 use sheet::{LEAST_EDGES, LEAST_LOOPS, LEAST_POINTS, Loop};
 use std::test::Fail;
 
-// The number and the place of the first rule that the sheet of a file breaks.
-fn broken(file: &[u8]) -> Result<Option<(u8, usize)>, Fail> {
+// What the rules tell of the sheet of a file, over a scratch table.
+fn tried(file: &[u8], strokes: &mut [Stroke]) -> Result<Result<Option<Refusal>, Refusal>, Fail> {
     let mut points = [Point::default(); LEAST_POINTS];
     let mut edges = [Edge::default(); LEAST_EDGES];
     let mut loops = [Loop::default(); LEAST_LOOPS];
@@ -16,10 +17,12 @@ fn broken(file: &[u8]) -> Result<Option<(u8, usize)>, Fail> {
     let points = points.get(..usize::from(size.inner) + 4).unwrap_or(&[]);
     let edges = edges.get(..usize::from(size.corners) + 4).unwrap_or(&[]);
     let loops = loops.get(..usize::from(size.loops)).unwrap_or(&[]);
-    let mut strokes = [Stroke::default(); 40];
-    let Ok(said) = first_broken(size.inner, points, edges, loops, &mut strokes) else {
-        return Err(Fail::new("no room"));
-    };
+    Ok(first_broken(size.inner, points, edges, loops, strokes))
+}
+
+// The number and the place of the first rule that the sheet of a file breaks.
+fn broken(file: &[u8]) -> Result<Option<(u8, usize)>, Fail> {
+    let said = tried(file, &mut [Stroke::default(); 40])??;
     Ok(said.map(|refusal| (refusal.cause.number(), refusal.place)))
 }
 
@@ -44,6 +47,20 @@ fn sheets_keep_the_rules(rt: HostRuntime) -> Result<(), Fail> {
     // a vertex on the line between two others that are joined through it
     let straight = [1, 4, 4, 1, 2, 2, 2, 0, 4, 0, 1, 2, 4, 0, 4, 0, 4, 2, 3, 0];
     assert_eq!(rt; broken(&straight)?, None);
+    Ok(())
+}
+
+#[test]
+fn the_edges_of_a_sheet_want_room(rt: HostRuntime) -> Result<(), Fail> {
+    // one loop, and none inside: four edges
+    let square = [1, 2, 2, 0, 1, 0, 4, 0, 1, 2, 3, 0];
+    assert_eq!(rt; tried(&square, &mut [Stroke::default(); 4])?, Ok(None));
+    let refused = Refusal {
+        cause: Cause::TableTooShort,
+        layer: Layer::Check,
+        place: 0,
+    };
+    assert_eq!(rt; tried(&square, &mut [Stroke::default(); 3])?, Err(refused));
     Ok(())
 }
 

@@ -5,6 +5,8 @@ use Rattle.plane.specs.declared.Edge.{Edge}
 use Rattle.refusal.specs.declared.Cause.{Cause}
 use Rattle.refusal.specs.declared.Cause.TheVariants.{TableTooShort, LoopSum, SamePoint, VertexTwice, EdgeTwice, NoReverse, VertexUnused, EdgesTouch, LoopTurned}
 use Rattle.refusal.specs.declared.Refusal.{Refusal}
+use Rattle.refusal.specs.declared.Layer.TheVariants.{Check}
+use Rattle.refusal.specs.Numbers.{refused}
 use Rattle.sheet.specs.declared.tables.Loop.{Loop}
 use Rattle.sheet.specs.Sheets.{point}
 use Rattle.rules.specs.declared.strokes.Stroke.{Stroke}
@@ -59,11 +61,11 @@ abbrev pub late_broken_at : List Point → List Edge → List Loop → Option Re
 late_broken_at ps es ls = or_else (told EdgesTouch (strokes_broken_at ps es)) (told LoopTurned (turns_broken_at ps es ls))
 
 -- what is told over a scratch table with room for so many strokes, which is asked for where the rules before 19 are kept
-abbrev pub broken_said : ℕ → List Point → List Edge → List Loop → ℕ → Result (Option Refusal) Cause
+abbrev pub broken_said : ℕ → List Point → List Edge → List Loop → ℕ → Result (Option Refusal) Refusal
 broken_said n ps es ls room =
     cond (is_some (early_broken_at n ps es ls)) (Ok (early_broken_at n ps es ls))
-    (cond (nat_lt room (length (first_listed [] es))) (Err TableTooShort) (Ok (late_broken_at ps es ls)))
+    (cond (nat_lt room (length (first_listed [] es))) (Err (refused TableTooShort Check 0)) (Ok (late_broken_at ps es ls)))
 
 -- where there is room for the edges of the sheet, the first rule that the tables break is told
-abbrev pub RoomTells : ℕ → List Point → List Edge → List Loop → ℕ → Result (Option Refusal) Cause → Type 0
+abbrev pub RoomTells : ℕ → List Point → List Edge → List Loop → ℕ → Result (Option Refusal) Refusal → Type 0
 RoomTells n ps es ls room said = length (first_listed [] es) ≤ room → said ≡ Ok (first_broken_at n ps es ls)

@@ -54,15 +54,15 @@ fn early_broken(inner: u16, points: &[Point], edges: &[Edge], loops: &[Loop]) ->
     listing_broken(inner, edges, loops)
 }
 
-/// The first rule that the tables break, at its first place. `strokes` is scratch; it is refused where the rules before 19 are kept
-/// and it has no room for the edges of the sheet.
+/// The first rule that the tables break, at its first place. `strokes` is scratch; the call is refused where the rules before 19 are kept
+/// and `strokes` has no room for the edges of the sheet.
 pub fn first_broken(
     inner: u16,
     points: &[Point],
     edges: &[Edge],
     loops: &[Loop],
     strokes: &mut [Stroke],
-) -> Result<Option<Refusal>, Cause>
+) -> Result<Option<Refusal>, Refusal>
     ensures said { result ≡ broken_said inner points.now edges.now loops.now (length strokes.old) }
     ensures rules { RoomTells inner points.now edges.now loops.now (length strokes.old) result }
 {
@@ -70,7 +70,10 @@ pub fn first_broken(
     if early.is_some() {
         return Ok(early);
     }
-    let touching = told(Cause::EdgesTouch, strokes_broken(points, edges, strokes)?);
+    let Ok(touching) = strokes_broken(points, edges, strokes) else {
+        return Err(Refusal::new(Cause::TableTooShort, Layer::Check, 0));
+    };
+    let touching = told(Cause::EdgesTouch, touching);
     if touching.is_some() {
         return Ok(touching);
     }
