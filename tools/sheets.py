@@ -69,6 +69,32 @@ SPRING_FIELDS = fields(
     [(14, b"spring")])
 SPRING = join(SPRING_FIELDS)
 
+QUAD = [4, 5, 6, 7]  # the loops of the spring sheet, the rectangle first
+BELOW, RIGHT, ABOVE, LEFT = [0, 1, 5, 4], [1, 2, 6, 5], [2, 3, 7, 6], [3, 0, 4, 7]
+AROUND = [QUAD, BELOW, RIGHT, ABOVE, LEFT]
+
+
+def corners_only(loops):
+    """The loops of these corners, all of numeral 0."""
+    return [(0, corners) for corners in loops]
+
+
+def sheet(width, height, inner, loops):
+    """A sheet without numerals."""
+    return file(width, height, inner, corners_only(loops), [])
+
+
+def like_spring(loops, *more, moved=None):
+    """The spring sheet with these loops, more vertices, some vertices moved."""
+    spring = enumerate([(3, 3), (9, 3), (9, 7), (3, 7)], 4)
+    inner = [(moved or {}).get(v, at) for v, at in spring]
+    return sheet(12, 10, inner + list(more), loops)
+
+
+def eight(inner, loops):
+    """A sheet of 8 by 8."""
+    return sheet(8, 8, inner, loops)
+
 
 def largest():
     """A legal file of the greatest length, 39,260 bytes.
@@ -112,4 +138,39 @@ def grid(side, triangles):
     if triangles:
         loops = [[loop[0], b, c]
                  for loop in loops for b, c in zip(loop[1:], loop[2:])]
-    return file(8000, 8000, inner, [(0, loop) for loop in loops], [])
+    return sheet(8000, 8000, inner, loops)
+
+
+def row_loops(path):
+    """Four loops below, right, above and left of a path of inner vertices.
+
+    The path leads from left to right; its first vertex is joined to the
+    corners 0 and 3 of the sheet, its last one to 1 and 2.
+    """
+    return [[0, 1] + path[::-1], [1, 2, path[-1]], [2, 3] + path,
+            [3, 0, path[0]]]
+
+
+def row(width, height, path):
+    """A sheet whose inner vertices are the points of such a path."""
+    loops = row_loops(list(range(4, 4 + len(path))))
+    return sheet(width, height, path, loops)
+
+
+def spiral(turns):
+    """A band that winds inwards, and four loops about it; 8 vertices a turn."""
+    size = 4 * turns + 20  # the innermost turn is 20 wide
+
+    def line(inset):
+        """Counterclockwise inwards, each turn 2 farther in than the last."""
+        out = []
+        for o in range(inset, inset + 2 * turns, 2):
+            begin = (o, o) if o == inset else (o - 2, o)
+            out += [begin, (size - o, o), (size - o, size - o), (o, size - o)]
+        return out
+
+    inner = line(1) + line(2)[::-1]
+    band = list(range(4, 4 + len(inner)))
+    loops = [band, [0, 1, 5, 4], [1, 2, 6, 5], [2, 3, 7, 6],
+             [3, 0, 4] + band[:2:-1]]
+    return sheet(size, size, inner, loops)

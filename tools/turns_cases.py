@@ -4,11 +4,15 @@
 
 STDIN gets the script (its language: tools/reference/play.py), STDOUT what the
 reference prints for it. Cases written by hand also name their outcome; if the
-reference differs from one of them, nothing is written.
+reference differs from one of them, nothing is written. The cases of check are
+in check_cases.py, rule_cases.py and altered_cases.py.
 """
 
 import sys
 
+from altered_cases import altered_cases
+from check_cases import check_cases
+from rule_cases import rule_cases
 from sheets import SPRING, SPRING_FIELDS, file, largest, number
 from turns_script import KINDS, NOTHING, Script, at, cut, spring
 
@@ -382,7 +386,8 @@ def main():
     for part in (first_cases, first_wordings, wipes, ends, bad_numbers, heading, vertices, loops,
                  corner_limit, labels, ends_and_rest, pairs_at_one_byte,
                  pairs_in_reading_order, pairs_of_labels, changed_bytes,
-                 kept_limits, largest_file, kept_sheets, short_tables):
+                 kept_limits, largest_file, kept_sheets, short_tables,
+                 check_cases, rule_cases, altered_cases):
         part(s)
     for path, lines in zip(sys.argv[1:3], (s.lines, s.outcomes)):
         with open(path, "w", encoding="ascii") as out:

@@ -6,6 +6,7 @@ import sys
 sys.path.insert(0, os.path.join(os.path.dirname(__file__), "reference"))
 
 from play import Player
+from rules import all_broken, drawing
 from sheets import SPRING_FIELDS, number, put, upto
 
 # One field of every kind, by its name in the spring file.
@@ -61,6 +62,30 @@ class Script:
 
     def refused(self, data, refusal, place):
         self.load(data, f"refused {refusal} 1 {place}")
+
+    def check(self, expected=None):
+        self.do("check", expected)
+
+    def passes(self, data):
+        """A sheet that keeps the rules; the board is empty again after it."""
+        self.load(data, "ok")
+        self.check("ok")
+        self.do("wipe", "ok")
+
+    def breaks(self, data, rule, place):
+        """A sheet that breaks this rule and none before it."""
+        self.load(data, "ok")
+        self.check(f"refused {rule} 2 {place}")
+
+    def alone(self, data, rule, place):
+        """A sheet that breaks this rule and no other."""
+        self.breaks(data, rule, place)
+        broken = all_broken(drawing(*self.player.board.held()))
+        if broken != [rule]:
+            raise SystemExit(f"breaks {broken}, by hand only {rule}")
+
+    def alter(self, entry, expected="ok"):
+        self.do(f"alter {entry}", expected)
 
     def tables(self, expected=None):
         self.do("tables", expected)

@@ -7,6 +7,7 @@ start with # print nothing. Files are lower-case hex. The program `turns` plays
 the commands from `load` to `short`, the program `tips` the others.
 
     load HEX               a turn; nothing after `load` is the empty file
+    check                  a turn
     wipe                   a turn
     stage                  ok STAGE
     tables                 ok WIDTH HEIGHT INNER LOOPS CORNERS LIVE
@@ -14,6 +15,9 @@ the commands from `load` to `short`, the program `tips` the others.
     wording HEX KIND A B   KIND 1 vertex A, 2 edge A B, 3 face of loop A;
                            HEX is - for the empty file;
                            ok none, or ok PLACE TEXT
+    alter NAME I NUMBERS   the caller, and no turn, changes entry I of a table:
+                           points I X Y, edges I FROM TO,
+                           loops I NUMERAL START CORNERS, live I NODE
     short NAME L           a new board over new tables filled with zeros:
                            table NAME has L entries, the others the least
     whole X Y W H AX AY BX BY
@@ -26,6 +30,8 @@ the commands from `load` to `short`, the program `tips` the others.
     make KERNEL X Y        the tip of the kernel whole or rational at a whole
                            point: ok none, ok X Y or ok X Y Z
 
+Of `alter`, another name prints `no such table`; an entry past the table's end,
+or a word that is missing or no number of 16 bits, prints `no such entry`.
 A word of a tip that is no number of its type, or is missing, prints `no such
 number`. X and Y of rational tips have 64 bits, Z has 32, all others have 16.
 A refusal prints `refused NUMBER LAYER PLACE`. D is a digest of a list of
@@ -35,10 +41,14 @@ numbers: h is 0 at first, and h = (h * 31 + v) mod 2^32 for each number v.
 import sys
 
 import tips
+from altered import first_altered
+from rules import drawing, first_broken
 from sheetfile import FILE_LAYER, Refusal, read, wording
 
-COMMANDS = ("load", "wipe", "stage", "tables", "wording", "short", "whole",
-            "rational", "make")
+COMMANDS = ("load", "check", "wipe", "stage", "tables", "wording", "alter",
+            "short", "whole", "rational", "make")
+
+CHECK_LAYER = 2
 
 LEAST = {"points": 1028, "edges": 6154, "strokes": 3077, "loops": 2050,
          "live": 2050}
@@ -46,6 +56,9 @@ LEAST = {"points": 1028, "edges": 6154, "strokes": 3077, "loops": 2050,
 # What an entry of each table is when the table is new.
 BLANK = {"points": (0, 0), "edges": (0, 0), "strokes": (0, 0),
          "loops": (0, 0, 0), "live": 0}
+
+# How many numbers an entry has that a caller can alter.
+ENTRY = {"points": 2, "edges": 2, "loops": 3, "live": 1}
 
 
 def digest(numbers):
@@ -99,12 +112,33 @@ class Board:
     def fill(self, name, rows):
         self.table[name][:len(rows)] = rows
 
-    def tables(self):
+    def check(self):
+        """Gives the Refusal, or None when the check is granted."""
+        if self.too_short(["points", "edges", "strokes", "loops"]):
+            return Refusal(12, CHECK_LAYER, 0)
+        if self.stage != "Draft" or self.empty:
+            return Refusal(28, CHECK_LAYER, 0)
+        points, edges, loops = self.held()
+        entry = first_altered(self.width, self.height, points, loops, edges)
+        if entry is not None:
+            return Refusal(27, CHECK_LAYER, entry)
+        broken = first_broken(drawing(points, edges, loops))
+        if broken is not None:
+            number, place = broken
+            return Refusal(number, CHECK_LAYER, place)
+        self.stage = "Checked"
+        return None
+
+    def held(self):
+        """The points, edges and loops up to their counts."""
         # An empty Draft has no vertices, not even the corners of a sheet.
         more = 0 if self.empty else 4
-        points = self.table["points"][:self.inner + more]
-        edges = self.table["edges"][:self.corners + more]
-        loops = self.table["loops"][:self.loops]
+        return (self.table["points"][:self.inner + more],
+                self.table["edges"][:self.corners + more],
+                self.table["loops"][:self.loops])
+
+    def tables(self):
+        points, edges, loops = self.held()
         return (f"{self.width} {self.height} {self.inner} {self.loops} "
                 f"{self.corners} {self.live} points {digest(flat(points))} "
                 f"edges {digest(flat(edges))} loops {digest(flat(loops))}")
@@ -134,6 +168,10 @@ class Player:
         refusal = self.board.load(bytes.fromhex(hexed))
         return told(refusal) if refusal else "ok"
 
+    def check(self):
+        refusal = self.board.check()
+        return told(refusal) if refusal else "ok"
+
     def wipe(self):
         self.board.wipe()
         return "ok"
@@ -153,6 +191,17 @@ class Player:
             return "ok none"
         place, text = found
         return f"ok {place} {text.decode('ascii')}"
+
+    def alter(self, name="", *words):
+        if name not in ENTRY:
+            return "no such table"
+        table = self.board.table[name]
+        found = tips.numbers(words, [tips.WORD] * (1 + ENTRY[name]))
+        if found is None or found[0] >= len(table):
+            return "no such entry"
+        entry, *row = found
+        table[entry] = row[0] if name == "live" else tuple(row)
+        return "ok"
 
     def short(self, name, length):
         if name not in LEAST:

@@ -1,7 +1,7 @@
 -- What each turn answers, and what it leaves of the board.
-use Rattle.std.specs.Prelude.{ℕ, Bool, true, false, cond, List, length, Ok, Err, Result, nat_le}
+use Rattle.std.specs.Prelude.{◌≡◌, ℕ, ◌==◌, Bool, true, false, not, cond, List, length, Ok, Err, Result, nat_le}
 use Rattle.refusal.specs.declared.Cause.TheVariants.{NotThisStage, TableTooShort}
-use Rattle.refusal.specs.declared.Layer.TheVariants.{File}
+use Rattle.refusal.specs.declared.Layer.TheVariants.{Check, File}
 use Rattle.refusal.specs.declared.Refusal.{Refusal}
 use Rattle.refusal.specs.Numbers.{refused}
 use Rattle.plane.specs.declared.Point.{Point}
@@ -10,6 +10,9 @@ use Rattle.sheet.specs.declared.tables.Loop.{Loop}
 use Rattle.sheet.specs.declared.tables.Size.{Size}
 use Rattle.sheet.specs.Load.{roomy, sheet_of}
 use Rattle.sheet.specs.Sheets.{Sheet, size_of, sizes}
+use Rattle.checking.specs.Checks.{check_room, check_said, passes}
+use Rattle.checking.specs.Held.{Holds}
+use Rattle.rules.specs.Rules.{first_broken}
 use Rattle.board.specs.declared.stage.Board.{Board}
 use Rattle.board.specs.declared.stage.Stage.{Stage}
 use Rattle.board.specs.declared.stage.Stage.TheVariants.{Draft, Checked, Layered, Sealed}
@@ -42,3 +45,27 @@ loads b points edges loops live file =
 abbrev pub load_board : Result Sheet Refusal → Board → Board
 load_board (Ok s) b = board Draft (size_of s) 0
 load_board (Err e) b = b
+
+-- the board has a Draft that is not empty
+abbrev pub is_loaded : Board → Bool
+is_loaded b = cond (is_draft b.stage) (not (b.size.width == 0)) false
+
+-- what a check answers: first a table that is too short, then another stage or an empty Draft, then a wrong entry of the tables, and then
+-- the first rule that is broken by the sheet that they hold
+abbrev pub checks : Board → List Point → List Edge → List Loop → ℕ → Result (Unit {0}) Refusal
+checks b points edges loops strokes =
+    cond (check_room (length points) (length edges) (length loops) strokes)
+    (cond (is_loaded b) (check_said b.size points edges loops) (Err (refused NotThisStage Check 0)))
+    (Err (refused TableTooShort Check 0))
+
+-- the sheet is Checked; a refused check leaves the board as it is
+abbrev pub check_board : Result (Unit {0}) Refusal → Board → Board
+check_board (Ok x) b = board Checked b.size b.live
+check_board (Err e) b = b
+
+-- the theorem: the check of a Draft whose sheet the tables hold passes exactly where the sheet keeps the eight rules, and tells the first
+-- that it breaks
+unfoldable pub SheetPasses : Board → List Point → List Edge → List Loop → ℕ → Result (Unit {0}) Refusal → Type 0
+SheetPasses b points edges loops strokes said =
+    (s : Sheet) → Holds b.size points edges loops s → is_loaded b ≡ true → check_room (length points) (length edges) (length loops) strokes ≡ true
+    → said ≡ passes (first_broken s)

@@ -2,13 +2,15 @@ ghost use Rattle.std.specs.Prelude.{◌≡◌, [], length, Ok as Good};
 ghost use Rattle.sheet.specs.Load.{upon};
 ghost use Rattle.reader.specs.Reading.{and_then};
 ghost use Rattle.sheet.specs.Sheets.{edges_of, loops_of, points_of};
-ghost use Rattle.board.specs.Turns.{bare, load_board, load_room, loads};
+ghost use Rattle.board.specs.Turns.{SheetPasses, bare, check_board, checks, is_loaded, load_board, load_room, loads};
 
 use crate::stage::{Board, Stage};
+use checking::check_tables;
 use lent::LentList;
 use nodes::WriteStore;
 use plane::{Edge, Point};
 use refusal::{Cause, Layer, Refusal};
+use rules::Stroke;
 use sheet::{Loop, Size};
 
 /// The least length of the table of live nodes.
@@ -65,6 +67,38 @@ impl Board {
             live: nodes.count() as u16,
         };
         Ok(())
+    }
+
+    /// Finds whether the Draft's sheet keeps the eight rules, and makes it Checked; a refusal leaves the board as it is. `strokes` is
+    /// scratch.
+    #[tactic(auto, using(crate::proofs::Passing::loaded_passes, crate::proofs::Passing::none_passes, crate::proofs::Passing::short_passes))]
+    pub fn check(
+        &mut self,
+        points: &[Point],
+        edges: &[Edge],
+        loops: &[Loop],
+        strokes: &mut [Stroke],
+    ) -> Result<(), Refusal>
+        ensures said { result ≡ checks self.old points.now edges.now loops.now (length strokes.old) }
+        ensures board { self.new ≡ check_board result self.old }
+        ensures sheet { SheetPasses self.old points.now edges.now loops.now (length strokes.old) result }
+    {
+        if !checking::have_room(points, edges, loops, strokes) {
+            return Err(Refusal::new(Cause::TableTooShort, Layer::Check, 0));
+        }
+        if !self.is_loaded() {
+            return Err(Refusal::new(Cause::NotThisStage, Layer::Check, 0));
+        }
+        check_tables(self.size, points, edges, loops, strokes)?;
+        self.stage = Stage::Checked;
+        Ok(())
+    }
+
+    // Whether the board has a Draft that is not empty.
+    fn is_loaded(&self) -> bool
+        ensures { result ≡ is_loaded self.now }
+    {
+        self.stage == Stage::Draft && self.size.width != 0
     }
 
     /// Makes an empty Draft and empties the store; never refused.

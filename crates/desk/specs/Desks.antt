@@ -2,7 +2,7 @@
 use Rattle.std.specs.Prelude.{◌≡◌, ℕ, List, Result, vec_len}
 use Rattle.refusal.specs.declared.Refusal.{Refusal}
 use Rattle.sheet.specs.Sheets.{Sheet}
-use Rattle.board.specs.Turns.{bare, loads}
+use Rattle.board.specs.Turns.{bare, checks, loads}
 use Rattle.desk.specs.declared.Desk.{Desk}
 use Rattle.desk.specs.declared.Lengths.{Lengths}
 
@@ -11,8 +11,13 @@ pub record IsFresh (l : Lengths) (d : Desk) : Type 0 where
   pub board : d.board ≡ bare
   pub points : vec_len d.points ≡ l.points
   pub edges : vec_len d.edges ≡ l.edges
+  pub strokes : vec_len d.strokes ≡ l.strokes
   pub loops : vec_len d.loops ≡ l.loops
   pub live : vec_len d.live ≡ l.live
+
+-- what a check of the desk's tables answers
+abbrev pub desk_checks : Desk → Result (Unit {0}) Refusal
+desk_checks d = checks d.board d.points.items d.edges.items d.loops.items (vec_len d.strokes)
 
 -- what a load takes over the desk's tables
 abbrev pub desk_loads : Desk → List ℕ → Result Sheet Refusal

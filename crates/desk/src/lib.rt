@@ -1,16 +1,18 @@
 //! A board with tables of its own, for a program that has a heap.
 #![tactic(auto)]
 
-ghost use Rattle.std.specs.Prelude.{◌≡◌, IfOk, Ok as Good};
+ghost use Rattle.std.specs.Prelude.{◌≡◌, IfOk, Ok as Good, vec_len};
 ghost use Rattle.reader.specs.Reading.{and_then};
 ghost use Rattle.sheet.specs.Load.{upon};
 ghost use Rattle.sheet.specs.Sheets.{edges_of, loops_of, points_of};
-ghost use Rattle.board.specs.Turns.{load_board};
-ghost use Rattle.desk.specs.Desks.{IsFresh, desk_loads};
+ghost use Rattle.board.specs.Turns.{check_board, load_board};
+ghost use Rattle.desk.specs.Desks.{IsFresh, desk_checks, desk_loads};
 
 use board::{Board, LEAST_LIVE};
+use checking::LEAST_STROKES;
 use plane::{Edge, Point};
 use refusal::Refusal;
+use rules::Stroke;
 use sheet::{LEAST_EDGES, LEAST_LOOPS, LEAST_POINTS, Loop};
 use std::alloc::{AllocError, Global};
 
@@ -19,14 +21,16 @@ use std::alloc::{AllocError, Global};
 pub struct Lengths {
     pub points: usize,
     pub edges: usize,
+    pub strokes: usize,
     pub loops: usize,
     pub live: usize,
 }
 
-/// The least lengths with which a sheet is loaded.
+/// The least lengths with which a sheet is loaded and checked.
 pub const LEAST: Lengths = Lengths {
     points: LEAST_POINTS,
     edges: LEAST_EDGES,
+    strokes: LEAST_STROKES,
     loops: LEAST_LOOPS,
     live: LEAST_LIVE,
 };
@@ -37,6 +41,7 @@ pub struct Desk {
     pub board: Board,
     pub points: Vec<Point>,
     pub edges: Vec<Edge>,
+    pub strokes: Vec<Stroke>,
     pub loops: Vec<Loop>,
     pub live: Vec<u16>,
 }
@@ -50,6 +55,7 @@ impl Desk {
             board: Board::new(),
             points: vec![in heap; Point::default(); lengths.points]?,
             edges: vec![in heap; Edge::default(); lengths.edges]?,
+            strokes: vec![in heap; Stroke::default(); lengths.strokes]?,
             loops: vec![in heap; Loop::default(); lengths.loops]?,
             live: vec![in heap; 0; lengths.live]?,
         })
@@ -69,6 +75,23 @@ impl Desk {
         let loops = self.loops.as_mut_slice();
         let live = self.live.as_mut_slice();
         self.board.load(file, points, edges, loops, live)
+    }
+
+    /// Finds whether the Draft's sheet keeps the eight rules, and makes it Checked; a refusal leaves the board as it is.
+    pub fn check(&mut self) -> Result<(), Refusal>
+        ensures said { result ≡ desk_checks self.old }
+        ensures board { self.new.board ≡ check_board result self.old.board }
+        ensures points { self.new.points.items ≡ self.old.points.items }
+        ensures edges { self.new.edges.items ≡ self.old.edges.items }
+        ensures loops { self.new.loops.items ≡ self.old.loops.items }
+        ensures live { self.new.live.items ≡ self.old.live.items }
+        ensures strokes { vec_len self.new.strokes ≡ vec_len self.old.strokes }
+    {
+        let points = self.points.as_slice();
+        let edges = self.edges.as_slice();
+        let loops = self.loops.as_slice();
+        let strokes = self.strokes.as_mut_slice();
+        self.board.check(points, edges, loops, strokes)
     }
 }
 

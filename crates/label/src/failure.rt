@@ -6,16 +6,10 @@ use std::fmt;
 // A refusal is kept whole: an `anyhow::Error` would cut its sentence off.
 #[derive(Drop)]
 pub(crate) enum Failure {
-    /// The sheet is refused.
-    Refused(Refusal),
+    /// The sheet is refused; what clashes in it is told in words behind.
+    Refused(Refusal, String),
     /// The file, the arguments, the memory or the output failed.
     Failed(anyhow::Error),
-}
-
-impl From<Refusal> for Failure {
-    fn from(refusal: Refusal) -> Failure {
-        Failure::Refused(refusal)
-    }
 }
 
 impl From<anyhow::Error> for Failure {
@@ -33,7 +27,7 @@ impl From<AllocError> for Failure {
 impl fmt::Display for Failure {
     fn fmt<W: fmt::Write>(&self, f: &mut fmt::Formatter<W>) -> fmt::Result {
         match self {
-            Failure::Refused(refusal) => write!(f, "{refusal}"),
+            Failure::Refused(refusal, words) => write!(f, "{refusal}{words}"),
             Failure::Failed(error) => write!(f, "{error}"),
         }
     }

@@ -1,13 +1,16 @@
-//! Reads a sheet file and prints its size, its counts and its parts list.
+//! Reads a sheet file, checks the sheet, and prints its size, its counts and its parts list.
 #![tactic(auto)]
 
+mod broken;
 mod failure;
 mod parts;
 
 use anyhow::anyhow;
+use broken::clash_words;
 use desk::{Desk, LEAST};
 use failure::Failure;
 use parts::print_parts;
+use std::alloc::Global;
 use std::io::Read;
 use std::process::ExitCode;
 use std::{env, fs};
@@ -36,11 +39,24 @@ fn read_argument(rt: &HostRuntime) -> anyhow::Result<Vec<u8>> {
     }
 }
 
+// Loads and checks the sheet of a file.
+fn take(heap: Global, desk: &mut Desk, file: &[u8]) -> Result<(), Failure> {
+    let refused = match desk.load(file) {
+        Ok(()) => desk.check(),
+        Err(refusal) => Err(refusal),
+    };
+    let Err(refusal) = refused else {
+        return Ok(());
+    };
+    let words = clash_words(heap, desk, refusal)?;
+    Err(Failure::Refused(refusal, words))
+}
+
 // Prints the parts list of the sheet.
 fn run(rt: &HostRuntime) -> Result<(), Failure> {
     let file = read_argument(rt)?;
     let mut desk = Desk::new(rt.alloc(), LEAST)?;
-    desk.load(file.as_slice())?;
+    take(rt.alloc(), &mut desk, file.as_slice())?;
     print_parts(rt, &desk, file.as_slice())?;
     Ok(())
 }
@@ -53,3 +69,6 @@ fn main(rt: HostRuntime) -> anyhow::Result<ExitCode> {
     eprintln!(rt; "label: {failure}")?;
     Ok(ExitCode::FAILURE)
 }
+
+#[cfg(test)]
+mod tests;

@@ -1,4 +1,5 @@
 //! The parts list of a sheet.
+use board::Stage;
 use desk::Desk;
 use plane::Edge;
 use sheet::{Answer, Loop, Size, wording};
@@ -6,7 +7,7 @@ use std::alloc::{AllocError, Global};
 use std::collections::BTreeMap;
 use std::fmt;
 
-/// Prints the size, the counts, and a line for each loop.
+/// Prints the size, the counts, that a checked sheet is in order, and a line for each loop.
 pub(crate) fn print_parts(rt: &HostRuntime, desk: &Desk, file: &[u8]) -> anyhow::Result<()> {
     let Size {
         width,
@@ -18,6 +19,9 @@ pub(crate) fn print_parts(rt: &HostRuntime, desk: &Desk, file: &[u8]) -> anyhow:
     println!(rt;
         "sheet {width} x {height}: {inner} inner vertices, {loops} loops, {corners} corners"
     )?;
+    if desk.board.stage() == Stage::Checked {
+        println!(rt; "in order: it keeps the eight rules")?;
+    }
     let words = wordings(rt.alloc(), desk, file)?;
     let room = words
         .values()

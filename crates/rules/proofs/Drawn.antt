@@ -14,7 +14,7 @@ use Rattle.rules.proofs.Orders.{same_edge_true}
 abbrev pub Has : List Edge → Edge → Type 0
 Has l e = In e l ⊎ In (back e) l
 
-has_more : (l : List Edge) (x e : Edge) → Has l e → Has (x ∷ l) e
+pub has_more : (l : List Edge) (x e : Edge) → Has l e → Has (x ∷ l) e
 has_more l x e (inl i) = inl (inr i)
 has_more l x e (inr i) = inr (inr i)
 

@@ -52,7 +52,7 @@ module _ (s : Sheet) where
   sum_same : sum_broken_at (length s.inner) (loops_of s) ≡ sum_broken s
   sum_same = ap (λ n. cond (n == 2 * length s.inner + 2) None (Some 0)) (triangles_same 0 s.rings)
 
-  loops_same : loops_broken_at (edges_of s) (loops_of s) ≡ loops_broken s
+  pub loops_same : loops_broken_at (edges_of s) (loops_of s) ≡ loops_broken s
   loops_same =
       let twice : List ℕ → Bool = λ cs. is_some (first_clash_in (λ u v. u == v) cs) in
       position_same _ names_twice (loops_of s) s.rings (rows (λ es. twice (starts es)) s ∙ (λ i. map (λ r. twice (starts_ring r.corners i)) s.rings))

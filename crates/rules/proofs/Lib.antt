@@ -13,3 +13,5 @@ pub mod Searches
 pub mod Twice
 pub mod Boxes
 pub mod Listing
+pub mod Halves
+pub mod Rooms

@@ -12,7 +12,7 @@ use Rattle.plane.specs.Edges.{same_edge}
 use Rattle.plane.specs.Points.{same_point}
 
 -- what an answer of nothing tells of what it was made from
-neither : (a b : Option Refusal) → or_else a b ≡ None → (a ≡ None) × (b ≡ None)
+pub neither : (a b : Option Refusal) → or_else a b ≡ None → (a ≡ None) × (b ≡ None)
 neither None b h = (refl, h)
 neither (Some e) b h = cc
 
@@ -20,7 +20,7 @@ pub nothing_made : {X Y : Type 0} (f : X → Y) (o : Option X) → option_map f 
 nothing_made f None h = refl
 nothing_made f (Some x) h = cc
 
-untold : (cause : Cause) (o : Option ℕ) → told cause o ≡ None → o ≡ None
+pub untold : (cause : Cause) (o : Option ℕ) → told cause o ≡ None → o ≡ None
 untold cause None h = refl
 untold cause (Some n) h = cc
 
@@ -59,5 +59,5 @@ kept s h =
 pub points_free : (s : Sheet) → Kept s → IsFree same_point (points_of s)
 points_free s k = IsFree-from_None same_point (points_of s) (nothing_made _ (first_clash_in same_point (points_of s)) k.points)
 
-pub edges_free : (s : Sheet) → Kept s → IsFree same_edge (edges_of s)
-edges_free s k = IsFree-from_None same_edge (edges_of s) (nothing_made _ (first_clash_in same_edge (edges_of s)) k.edges)
+pub edges_free : (s : Sheet) → edges_broken s ≡ None → IsFree same_edge (edges_of s)
+edges_free s h = IsFree-from_None same_edge (edges_of s) (nothing_made _ (first_clash_in same_edge (edges_of s)) h)

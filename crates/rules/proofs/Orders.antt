@@ -1,5 +1,5 @@
 -- A sheet within its limits that keeps the rules is a subdivision in order.
-use Rattle.std.proofs.Common.{All, ◌≡◌, ℕ, zero, suc, ◌+◌, ◌-◌, ◌<◌, ◌≤◌, Bool, true, false, not, eqb, List, [], ◌∷◌, ◌++◌, length, map, get_or, pos, refl, sym, ap, ◌∙◌, subst, inl, inr, arith}
+use Rattle.std.proofs.Common.{All, ◌≡◌, ℕ, zero, suc, ◌+◌, ◌-◌, ◌<◌, ◌≤◌, Bool, true, false, not, eqb, List, [], ◌∷◌, ◌++◌, None, length, map, get_or, pos, refl, sym, ap, ◌∙◌, subst, inl, inr, arith}
 use Rattle.std.specs.List.{flat_map, list_any, range_with_len}
 use Rattle.std.proofs.lemmas.Bool.{and_from, and_parts, cases_order, eq-eqb, eqb-true, false≢true, not-false}
 use Rattle.std.proofs.lemmas.List.Elements.{All-map}
@@ -15,7 +15,7 @@ use Rattle.tiling.specs.Cells.{listed}
 use Rattle.tiling.specs.Order.{Inner}
 use Rattle.tiling.proofs.Lists.{in_map}
 use Rattle.rules.specs.Planes.{CheckedIsInOrder, plane_of}
-use Rattle.rules.specs.Rules.{is_listed, names, place_of}
+use Rattle.rules.specs.Rules.{is_listed, names, place_of, reverses_broken}
 use Rattle.plane.specs.Edges.{same_edge}
 use Rattle.plane.specs.Points.{same_point}
 use Rattle.rules.proofs.Elements.{all_in, none_passes, once_from_free, some_passes}
@@ -86,7 +86,7 @@ joined_map f g (x ∷ xs) = ap (λ zs. g (f x) ++ zs) (joined_map f g xs)
 pub listed_edges : (s : Sheet) → edges_of s ≡ listed (plane_of s)
 listed_edges s = ap (λ es. es ++ outside) (sym (joined_map (λ (r : Ring). r.corners) ring_edges s.rings))
 
-same_edge_itself : (e : Edge) → same_edge e e ≡ true
+pub same_edge_itself : (e : Edge) → same_edge e e ≡ true
 same_edge_itself e = and_from (eqb e.from e.from) (eqb e.to e.to) (eq-eqb e.from e.from refl) (eq-eqb e.to e.to refl)
 
 pub same_edge_true : (e f : Edge) → same_edge e f ≡ true → f ≡ e
@@ -96,9 +96,10 @@ same_edge_true e f h =
     let b = sym (eqb-true e.to f.to p.1) in
     λ i. record { from = a i; to = b i }
 
-paired : (s : Sheet) → Kept s → (e : Edge) → In e (edges_of s) → In (back e) (edges_of s)
-paired s k e i =
-    let all = none_passes (λ e. not (is_listed (edges_of s) (back e))) (edges_of s) k.reverses in
+-- the reverse of an edge is listed
+pub paired : (s : Sheet) → reverses_broken s ≡ None → (e : Edge) → In e (edges_of s) → In (back e) (edges_of s)
+paired s h e i =
+    let all = none_passes (λ e. not (is_listed (edges_of s) (back e))) (edges_of s) h in
     let f = some_passes (same_edge (back e)) (edges_of s) (not-false _ (all_in (λ e. not (is_listed (edges_of s) (back e)) ≡ false) (edges_of s) all e i)) in
     subst (λ f. In f (edges_of s)) (same_edge_true (back e) f.0 f.2) f.1
 
@@ -121,6 +122,6 @@ checked_is_in_order s legal none =
       apart = apart s k;
       named = named s legal.rings;
       used = used s k;
-      once = subst Once (listed_edges s) (once_from_free same_edge same_edge_itself (edges_of s) (edges_free s k));
-      paired = subst (λ es. (e : Edge) → In e es → In (back e) es) (listed_edges s) (paired s k);
+      once = subst Once (listed_edges s) (once_from_free same_edge same_edge_itself (edges_of s) (edges_free s k.edges));
+      paired = subst (λ es. (e : Edge) → In e es → In (back e) es) (listed_edges s) (paired s k.reverses);
     }

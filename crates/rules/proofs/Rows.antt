@@ -21,7 +21,7 @@ pub starts_ring : (cs : List ℕ) → starts (ring_edges cs) ≡ cs
 starts_ring [] = refl
 starts_ring (c ∷ cs) = starts_links c c cs
 
-ring_length : (cs : List ℕ) → length (ring_edges cs) ≡ length cs
+pub ring_length : (cs : List ℕ) → length (ring_edges cs) ≡ length cs
 ring_length cs = sym (length-map (ring_edges cs) (λ (e : Edge). e.from)) ∙ ap length (starts_ring cs)
 
 -- a part of a list, after those before it
@@ -30,8 +30,20 @@ middle : {X : Type 0} (front row behind : List X) (start n : ℕ) → length fro
 middle front row behind start n f r = rw (← f, ← r, drop-append_seam front (row ++ behind)) (take-append_seam row behind)
 
 -- the edges of loops one behind another
-abbrev rows_of : List Ring → List Edge
+abbrev pub rows_of : List Ring → List Edge
 rows_of = flat_map (λ r. ring_edges r.corners)
+
+-- the first of some loops, whose edges come after the front of es
+module _ (es front behind : List Edge) (start : ℕ) (r : Ring) (rs : List Ring) (f : length front ≡ start) (e : es ≡ front ++ (rows_of (r ∷ rs) ++ behind)) where
+  pub row_there : loop_edges es (entry start r) ≡ ring_edges r.corners
+  row_there = rw (e, append_assoc (ring_edges r.corners) (rows_of rs) behind) (middle front (ring_edges r.corners) (rows_of rs ++ behind) start (length r.corners) f (ring_length r.corners))
+
+  -- the others come after the longer front
+  pub rest_there : es ≡ (front ++ ring_edges r.corners) ++ (rows_of rs ++ behind)
+  rest_there = e ∙ simp append_assoc
+
+  pub front_there : length (front ++ ring_edges r.corners) ≡ start + length r.corners
+  front_there = let n = ring_length r.corners in length-append front (ring_edges r.corners) ∙ omega arith
 
 module _ {X : Type 0} (said : List Edge → X) where
   -- what is said of the edges of each loop, where those of the first come after the front of es
@@ -39,12 +51,8 @@ module _ {X : Type 0} (said : List Edge → X) where
       → map (λ l. said (loop_edges es l)) (loops_from start rs) ≡ map (λ r. said (ring_edges r.corners)) rs
   rows_from es front behind start [] f e = refl
   rows_from es front behind start (r ∷ rs) f e =
-      let row = ring_edges r.corners in
-      let n = ring_length r.corners in
-      let there = middle front row (rows_of rs ++ behind) start (length r.corners) f n in
-      let here : loop_edges es (entry start r) ≡ row = rw (e, append_assoc row (rows_of rs) behind) there in
-      let after : length (front ++ row) ≡ start + length r.corners = length-append front row ∙ omega arith in
-      let next = rows_from es (front ++ row) behind (start + length r.corners) rs after (e ∙ simp append_assoc) in
+      let here = row_there es front behind start r rs f e in
+      let next = rows_from es (front ++ ring_edges r.corners) behind (start + length r.corners) rs (front_there es front behind start r rs f e) (rest_there es front behind start r rs f e) in
       λ i. said (here i) ∷ next i
 
   -- what is said of the edges of each loop in the tables of a sheet

@@ -8,10 +8,11 @@ use Rattle.refusal.specs.declared.Refusal.{Refusal}
 use Rattle.refusal.specs.declared.Layer.TheVariants.{Check}
 use Rattle.refusal.specs.Numbers.{refused}
 use Rattle.sheet.specs.declared.tables.Loop.{Loop}
-use Rattle.sheet.specs.Sheets.{point}
+use Rattle.sheet.specs.Legal.{LegalSheet}
+use Rattle.sheet.specs.Sheets.{Sheet, edges_of, loops_of, point, points_of}
 use Rattle.rules.specs.declared.strokes.Stroke.{Stroke}
-use Rattle.rules.specs.Held.{edges_broken_at, first_broken_at, loops_broken_at, points_broken_at, reverses_broken_at, strokes_broken_at, sum_broken_at, turns_broken_at, vertices_broken_at}
-use Rattle.rules.specs.Rules.{first_listed, or_else, told}
+use Rattle.rules.specs.Held.{edges_broken_at, loops_broken_at, points_broken_at, reverses_broken_at, strokes_broken_at, sum_broken_at, turns_broken_at, vertices_broken_at}
+use Rattle.rules.specs.Rules.{first_broken, first_listed, or_else, told}
 use Rattle.rules.specs.Segments.{boxes_meet, meet_at, overlap_at}
 
 -- a vertex, or (0, 0) where there is no such vertex
@@ -66,6 +67,8 @@ broken_said n ps es ls room =
     cond (is_some (early_broken_at n ps es ls)) (Ok (early_broken_at n ps es ls))
     (cond (nat_lt room (length (first_listed [] es))) (Err (refused TableTooShort Check 0)) (Ok (late_broken_at ps es ls)))
 
--- where there is room for the edges of the sheet, the first rule that the tables break is told
-abbrev pub RoomTells : ℕ → List Point → List Edge → List Loop → ℕ → Result (Option Refusal) Refusal → Type 0
-RoomTells n ps es ls room said = length (first_listed [] es) ≤ room → said ≡ Ok (first_broken_at n ps es ls)
+-- over the tables of a sheet within its limits, and with room for 3,077 strokes or more (half of the 6,154 edges that it can list), the
+-- first rule that the sheet breaks is told, or none
+unfoldable pub SheetTells : ℕ → List Point → List Edge → List Loop → ℕ → Result (Option Refusal) Refusal → Type 0
+SheetTells n ps es ls room said =
+    (s : Sheet) → LegalSheet s → n ≡ length s.inner → ps ≡ points_of s → es ≡ edges_of s → ls ≡ loops_of s → 3077 ≤ room → said ≡ Ok (first_broken s)

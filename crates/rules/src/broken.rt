@@ -1,7 +1,7 @@
 //! The rules, tried in order over the caller's tables.
 ghost use Rattle.std.specs.Prelude.{◌≡◌, length};
 ghost use Rattle.rules.specs.Rules.{told as told_of};
-ghost use Rattle.rules.specs.Strokes.{RoomTells, broken_said, early_broken_at, listing_broken_at};
+ghost use Rattle.rules.specs.Strokes.{SheetTells, broken_said, early_broken_at, listing_broken_at};
 
 use crate::corners::{loops_broken, vertices_broken};
 use crate::counts::sum_broken;
@@ -55,7 +55,8 @@ fn early_broken(inner: u16, points: &[Point], edges: &[Edge], loops: &[Loop]) ->
 }
 
 /// The first rule that the tables break, at its first place. `strokes` is scratch; the call is refused where the rules before 19 are kept
-/// and `strokes` has no room for the edges of the sheet.
+/// and `strokes` has no room for the edges of the sheet; 3,077 strokes are room for every sheet within its limits.
+#[tactic(auto, using(crate::proofs::Rooms::sheet_tells))]
 pub fn first_broken(
     inner: u16,
     points: &[Point],
@@ -64,7 +65,7 @@ pub fn first_broken(
     strokes: &mut [Stroke],
 ) -> Result<Option<Refusal>, Refusal>
     ensures said { result ≡ broken_said inner points.now edges.now loops.now (length strokes.old) }
-    ensures rules { RoomTells inner points.now edges.now loops.now (length strokes.old) result }
+    ensures rules { SheetTells inner points.now edges.now loops.now (length strokes.old) result }
 {
     let early = early_broken(inner, points, edges, loops);
     if early.is_some() {

@@ -7,8 +7,8 @@ ghost use Rattle.rules.specs.Held.{loop_edges as loop_edges_of, loops_broken_at,
 use plane::Edge;
 use sheet::Loop;
 
-// The edges of a loop: so many from its first position on, as far as there are any.
-pub(crate) fn loop_edges<'a>(edges: &'a [Edge], item: &Loop) -> &'a [Edge]
+/// The edges of a loop: so many from its first position on, as far as there are any.
+pub fn loop_edges<'a>(edges: &'a [Edge], item: &Loop) -> &'a [Edge]
     ensures value { result.now ≡ loop_edges_of edges.now item.now }
     ensures few { length result.now ≤ 65535 }
 {

@@ -1,5 +1,5 @@
 -- Every file that is taken is within the limits.
-use Rattle.std.proofs.Common.{◌≡◌, ℕ, zero, suc, ◌+◌, ◌<◌, ◌≤◌, true, false, cond, eqb, List, [], ◌∷◌, ◌++◌, length, get_or, Ok, sym, refl, ap, ◌∙◌, subst, ⊎_elim, arith}
+use Rattle.std.proofs.Common.{◌≡◌, ℕ, zero, suc, ◌+◌, ◌<◌, ◌≤◌, true, false, cond, eqb, List, [], ◌∷◌, ◌++◌, length, get_or, Ok, Err, Result, sym, refl, ap, ◌∙◌, subst, ⊎_elim, arith}
 use borrow.Author.Tests.{clash}
 use Rattle.std.specs.Prelude.{All}
 use Rattle.std.proofs.lemmas.List.Elements.{All-nil, All-push}
@@ -7,11 +7,13 @@ use Rattle.std.proofs.lemmas.List.{get_or_append_left, get_or_push, length_push}
 use Rattle.std.proofs.lemmas.Bool.{cases_lt, eq-eqb}
 use Rattle.refusal.specs.declared.Cause.TheVariants.{BadNumeral, BadSize, BadWording, OverLimit}
 use Rattle.reader.specs.Kinds as kind
-use Rattle.reader.specs.Reading.{fault, several}
+use Rattle.reader.specs.Reading.{and_then, fault, several}
+use Rattle.refusal.specs.declared.Refusal.{Refusal}
 use Rattle.sheet.specs.declared.tables.Head.{Head}
 use Rattle.sheet.specs.declared.tables.Label.{Label}
 use Rattle.sheet.specs.Files.{SheetFile, contents, head, label, labelled, labels, ring, sheet}
 use Rattle.sheet.specs.Legal.{Apart, Inside, LegalFile, LegalLabel, LegalRing, LegalSheet}
+use Rattle.sheet.specs.Load.{sheet_of}
 use Rattle.sheet.specs.Sheets.{Ring, Sheet, corners_in}
 use Rattle.sheet.proofs.Known.{corner_known, count_known, fault_known, ok_same, ranged_known, several_known, then_known, vertex_known}
 use Rattle.sheet.proofs.Looped.{corners_push}
@@ -158,3 +160,12 @@ contents_known file f h =
       labels = subst (All LegalLabel) same k.0.legal;
       apart = subst Apart same k.0.apart;
     })
+
+-- the sheet that a load takes
+sheet_in : (file : List ℕ) (c : Result SheetFile Refusal) (s : Sheet) → contents file ≡ c → and_then c (λ f. Ok f.sheet) ≡ Ok s → LegalSheet s
+sheet_in file (Ok f) s h e = subst LegalSheet (ok_same f.sheet s e) (contents_known file f h).sheet
+sheet_in file (Err e) s h k = cc
+
+pub sheet_taken : (file : List ℕ) (s : Sheet) → sheet_of file ≡ Ok s → LegalSheet s
+unfolding sheet_of
+sheet_taken file s h = sheet_in file (contents file) s refl h

@@ -7,7 +7,7 @@ ghost use Rattle.reader.specs.Kinds.{corner, vertex};
 ghost use Rattle.reader.specs.Reading.{several};
 ghost use Rattle.reader.specs.Steps.{Passed};
 ghost use Rattle.plane.specs.Edges.{ring_edges};
-ghost use Rattle.sheet.specs.Sheets.{corners_in, edges_of, entry, loops_from, loops_of, points_of, size_of};
+ghost use Rattle.sheet.specs.Sheets.{corners as corners_of, corners_in, edges_of, entry, loops_from, loops_of, points_of, size_of};
 
 use crate::tables::{Head, Loop, Size};
 use lent::LentList;
@@ -154,13 +154,28 @@ fn read_head(reader: &mut Reader<'_>) -> Result<Head, Refusal>
     })
 }
 
-// The outside edges, which go round the sheet clockwise.
-const OUTSIDE: [Edge; 4] = [
+/// The outside edges, which go round the sheet clockwise.
+pub const OUTSIDE: [Edge; 4] = [
     Edge { from: 1, to: 0 },
     Edge { from: 2, to: 1 },
     Edge { from: 3, to: 2 },
     Edge { from: 0, to: 3 },
 ];
+
+/// The four corners of a sheet of this size, vertices 0 to 3.
+pub fn corners(width: u16, height: u16) -> [Point; 4]
+    ensures { result ≡ corners_of width height }
+{
+    [
+        Point { x: 0, y: 0 },
+        Point { x: width, y: 0 },
+        Point {
+            x: width,
+            y: height,
+        },
+        Point { x: 0, y: height },
+    ]
+}
 
 /// Reads a sheet, and puts its points, edges and loops behind those that the lists have, as far as these have room.
 // Three lists, and no struct of them: tried: of a slice that is lent two structs deep the check knows how long it is at the end, and not what it holds.
@@ -185,16 +200,7 @@ pub(crate) fn read_sheet(
         height,
         inner,
     } = read_head(reader)?;
-    let corners = [
-        Point { x: 0, y: 0 },
-        Point { x: width, y: 0 },
-        Point {
-            x: width,
-            y: height,
-        },
-        Point { x: 0, y: height },
-    ];
-    append_all(points, &corners);
+    append_all(points, &corners(width, height));
     read_vertices(reader, inner, width, height, points)?;
     let count = reader.count(2050)?;
     let corners = read_loops(reader, inner + 4, count, edges, loops)?;

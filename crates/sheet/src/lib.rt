@@ -9,6 +9,7 @@ mod tables;
 mod wordings;
 
 pub use answer::Answer;
+pub use body::{OUTSIDE, corners};
 pub use loading::{LEAST_EDGES, LEAST_LOOPS, LEAST_POINTS, have_room, load, taken_is_legal};
 pub use plane::Edge;
 pub use tables::{Loop, Size};

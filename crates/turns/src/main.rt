@@ -1,6 +1,7 @@
 //! Plays turns from standard input on one board, and prints a line for each outcome.
 #![tactic(auto)]
 
+mod alter;
 mod table;
 mod words;
 

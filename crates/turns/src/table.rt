@@ -1,3 +1,4 @@
+use crate::alter::alter;
 use crate::words::{bytes_of, digest};
 use board::Board;
 use desk::{Desk, LEAST, Lengths};
@@ -33,7 +34,12 @@ impl Table {
         };
         match next() {
             "load" => self.load(rt, next()),
+            "check" => self.check(rt),
             "wipe" => self.wipe(rt),
+            "alter" => {
+                let said = alter(&mut self.desk, next(), next(), [next(), next(), next()]);
+                Ok(rt.println(said)?)
+            }
             "stage" => self.print_stage(rt),
             "short" => self.shorten(rt, next(), next()),
             "tables" => self.print_tables(rt),
@@ -46,10 +52,11 @@ impl Table {
         let Some(file) = bytes_of(rt.alloc(), hex)? else {
             return Ok(rt.println("no such bytes")?);
         };
-        match self.desk.load(file.as_slice()) {
-            Ok(()) => Ok(rt.println("ok")?),
-            Err(refusal) => print_refusal(rt, refusal),
-        }
+        print_turn(rt, self.desk.load(file.as_slice()))
+    }
+
+    fn check(&mut self, rt: &HostRuntime) -> anyhow::Result<()> {
+        print_turn(rt, self.desk.check())
     }
 
     fn wipe(&mut self, rt: &HostRuntime) -> anyhow::Result<()> {
@@ -87,8 +94,10 @@ impl Table {
                 live: length,
                 ..LEAST
             },
-            // No turn is lent the strokes yet.
-            "strokes" => LEAST,
+            "strokes" => Lengths {
+                strokes: length,
+                ..LEAST
+            },
             _ => return Ok(rt.println("no such table")?),
         };
         *self = Table::new(rt.alloc(), lengths)?;
@@ -127,6 +136,13 @@ impl Table {
         print!(rt; "ok {width} {height} {inner} {loops} {corners} {live} ")?;
         println!(rt; "points {points_digest} edges {edges_digest} loops {loops_digest}")?;
         Ok(())
+    }
+}
+
+fn print_turn(rt: &HostRuntime, outcome: Result<(), Refusal>) -> anyhow::Result<()> {
+    match outcome {
+        Ok(()) => Ok(rt.println("ok")?),
+        Err(refusal) => print_refusal(rt, refusal),
     }
 }
 

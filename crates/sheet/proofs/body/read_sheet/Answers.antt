@@ -1,7 +1,7 @@
-use Rattle.std.proofs.Common.{◌∙◌}
+use Rattle.std.proofs.Common.{ap, ◌∙◌}
 use Rattle.std.proofs.lemmas.Result.{err_from_is_err_and}
 use Rattle.std.specs.List.{flat_map}
-use Rattle.lent.specs.Kept.{kept_in}
+use Rattle.lent.specs.Kept.{kept_in, puts}
 use Rattle.lent.proofs.Puts.{puts_both}
 use Rattle.plane.specs.Edges.{ring_edges}
 use Rattle.sheet.specs.Sheets.{corners}
@@ -43,7 +43,7 @@ returns-clause-read c =
         goes _ _ _ _ _ (told_ok h.value.1 h.value.2) h.same _ _ _ vs.value.1 vs.same _ _ _ n.value n.same _ _ rs.value.1,
         (
           size_is _ _ _ _ _ _ _ vs.value.2.1 rs.value.2.1 rs.value.2.0,
-          puts_both (kept_in c.args.points.now) _ _ (corners c.in_ok-width.field-0.width c.in_ok-width.field-0.height) vs.value.0 c.append_all.ensures.kept vs.value.2.0,
+          puts_both (kept_in c.args.points.now) _ _ (corners c.in_ok-width.field-0.width c.in_ok-width.field-0.height) vs.value.0 (c.append_all.ensures.kept ∙ ap (puts (kept_in c.args.points.now)) c.corners.ensures) vs.value.2.0,
           puts_both (kept_in c.args.edges.now) _ _ (flat_map (λ r. ring_edges r.corners) rs.value.0) outside rs.value.2.2 c.append_all-2.ensures.kept,
           rs.value.2.3,
         ),

@@ -1,0 +1,7 @@
+pub mod Fronts
+pub mod Links
+pub mod Reading
+pub mod Whole
+pub mod Unaltered
+pub mod Told
+pub mod Loaded
