@@ -5,13 +5,16 @@
 STDIN gets the script (its language: tools/reference/play.py), STDOUT what the
 reference prints for it. Cases written by hand also name their outcome; if the
 reference differs from one of them, nothing is written. The cases of check are
-in check_cases.py, rule_cases.py and altered_cases.py.
+in check_cases.py, rule_cases.py and altered_cases.py, those of cut, round and
+seal in layer_cases.py and layer_altered_cases.py.
 """
 
 import sys
 
 from altered_cases import altered_cases
 from check_cases import check_cases
+from layer_altered_cases import layer_altered_cases
+from layer_cases import layer_cases
 from rule_cases import rule_cases
 from sheets import SPRING, SPRING_FIELDS, file, largest, number
 from turns_script import KINDS, NOTHING, Script, at, cut, spring
@@ -384,10 +387,10 @@ def short_tables(s):
 def main():
     s = Script()
     for part in (first_cases, first_wordings, wipes, ends, bad_numbers, heading, vertices, loops,
-                 corner_limit, labels, ends_and_rest, pairs_at_one_byte,
-                 pairs_in_reading_order, pairs_of_labels, changed_bytes,
-                 kept_limits, largest_file, kept_sheets, short_tables,
-                 check_cases, rule_cases, altered_cases):
+                 corner_limit, labels, ends_and_rest, pairs_at_one_byte, pairs_in_reading_order,
+                 pairs_of_labels, changed_bytes, kept_limits, largest_file, kept_sheets,
+                 short_tables, check_cases, rule_cases, altered_cases, layer_cases,
+                 layer_altered_cases):
         part(s)
     for path, lines in zip(sys.argv[1:3], (s.lines, s.outcomes)):
         with open(path, "w", encoding="ascii") as out:

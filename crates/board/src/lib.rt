@@ -3,6 +3,8 @@
 
 mod stage;
 mod turns;
+mod typed;
 
 pub use stage::{Board, Stage};
 pub use turns::LEAST_LIVE;
+pub use typed::{Checked, Draft, Layered, Refused, Sealed};

@@ -1,4 +1,5 @@
 ghost use Rattle.std.specs.Prelude.{◌≡◌};
+ghost use Rattle.board.specs.Turns.{board};
 
 use sheet::Size;
 
@@ -23,9 +24,22 @@ pub struct Board {
     pub(crate) stage: Stage,
     pub(crate) size: Size,
     pub(crate) live: u16,
+    pub(crate) rounds: u16,
 }
 
 impl Board {
+    // A board at a stage.
+    pub(crate) fn at(stage: Stage, size: Size, live: u16, rounds: u16) -> Board
+        ensures { result ≡ board stage size live rounds }
+    {
+        Board {
+            stage,
+            size,
+            live,
+            rounds,
+        }
+    }
+
     /// How far the sheet has come.
     pub fn stage(&self) -> Stage
         ensures { result ≡ self.now.stage }
@@ -45,5 +59,12 @@ impl Board {
         ensures { result ≡ self.now.live }
     {
         self.live
+    }
+
+    /// How many rounds were granted since the cut; it stays at 65,535.
+    pub fn rounds(&self) -> u16
+        ensures { result ≡ self.now.rounds }
+    {
+        self.rounds
     }
 }

@@ -1,17 +1,20 @@
-ghost use Rattle.std.specs.Prelude.{◌≡◌, [], length, Ok as Good};
+ghost use Rattle.std.specs.Prelude.{◌≡◌, [], length, min, Ok as Good};
 ghost use Rattle.sheet.specs.Load.{upon};
 ghost use Rattle.reader.specs.Reading.{and_then};
 ghost use Rattle.sheet.specs.Sheets.{edges_of, loops_of, points_of};
-ghost use Rattle.board.specs.Turns.{SheetPasses, bare, check_board, checks, is_loaded, load_board, load_room, loads};
+ghost use Rattle.bottom.specs.Cuts.{cut_live, cut_nodes};
+ghost use Rattle.rounds.specs.Rounds.{RoundLive, round_nodes};
+ghost use Rattle.board.specs.Turns.{SheetPasses, bare, check_board, checks, cut_board, cuts, round_board, rounds, seal_board, seals, is_loaded, load_board, load_room, loads};
 
 use crate::stage::{Board, Stage};
-use checking::check_tables;
+use bottom::cut_tables;
+use checking::{check_tables, front};
 use lent::LentList;
-use nodes::WriteStore;
+use nodes::{ReadStore, WriteStore};
 use plane::{Edge, Point};
 use refusal::{Cause, Layer, Refusal};
 use rules::Stroke;
-use sheet::{Loop, Size};
+use sheet::{LEAST_POINTS, Loop, Size};
 
 /// The least length of the table of live nodes.
 pub const LEAST_LIVE: usize = 2050;
@@ -23,6 +26,13 @@ fn have_room(points: &[Point], edges: &[Edge], loops: &[Loop], live: &[u16]) -> 
     live.len() >= LEAST_LIVE && sheet::have_room(points, edges, loops)
 }
 
+// A number of sixteen bits, as near as one comes.
+fn sixteen_bits(n: usize) -> u16
+    ensures { result ≡ min 65535 n }
+{
+    n.min(65535) as u16
+}
+
 impl Board {
     /// A board with an empty Draft.
     pub fn new() -> Board
@@ -32,6 +42,7 @@ impl Board {
             stage: Stage::Draft,
             size: Size::default(),
             live: 0,
+            rounds: 0,
         }
     }
 
@@ -65,6 +76,7 @@ impl Board {
             stage: Stage::Draft,
             size,
             live: nodes.count() as u16,
+            rounds: 0,
         };
         Ok(())
     }
@@ -99,6 +111,83 @@ impl Board {
         ensures { result ≡ is_loaded self.now }
     {
         self.stage == Stage::Draft && self.size.width != 0
+    }
+
+    /// Cuts the loops of a Checked sheet into the store, all of whose nodes are live then, and makes it Layered. A refusal leaves board,
+    /// live table and store as they are, but a loop that is stuck leaves the store empty.
+    pub fn cut<S: WriteStore>(
+        &mut self,
+        points: &[Point],
+        edges: &[Edge],
+        loops: &[Loop],
+        live: &mut [u16],
+        store: &mut S,
+    ) -> Result<(), Refusal>
+        ensures said { result ≡ and_then (cuts self.old points.now edges.now loops.now (length live.old) (S.WriteStore.room store.old)) (λ _. Good tt) }
+        ensures board { self.new ≡ cut_board (cuts self.old points.now edges.now loops.now (length live.old) (S.WriteStore.room store.old)) self.old }
+        ensures nodes { S.ReadStore.nodes store.new ≡ cut_nodes (cuts self.old points.now edges.now loops.now (length live.old) (S.WriteStore.room store.old)) (S.ReadStore.nodes store.old) }
+        ensures room { S.WriteStore.room store.new ≡ S.WriteStore.room store.old }
+        ensures live { live.new ≡ cut_live (cuts self.old points.now edges.now loops.now (length live.old) (S.WriteStore.room store.old)) live.old }
+    {
+        if !bottom::have_room(points, edges, loops, live) {
+            return Err(Refusal::new(Cause::TableTooShort, Layer::Build, 0));
+        }
+        let Stage::Checked = self.stage else {
+            return Err(Refusal::new(Cause::NotThisStage, Layer::Build, 0));
+        };
+        let live = cut_tables(self.size, points, edges, loops, live, store)?;
+        *self = Board {
+            stage: Stage::Layered,
+            size: self.size,
+            live,
+            rounds: 0,
+        };
+        Ok(())
+    }
+
+    /// Takes out as many inner vertices of a Layered sheet as one round can, closes their holes with new nodes, and makes these live in place
+    /// of the old. A refusal leaves board, live table and store as they are.
+    pub fn round<S: WriteStore>(
+        &mut self,
+        points: &[Point],
+        live: &mut [u16],
+        store: &mut S,
+    ) -> Result<(), Refusal>
+        ensures said { result ≡ and_then (rounds self.old points.now live.old (S.ReadStore.nodes store.old) (S.WriteStore.room store.old)) (λ _. Good tt) }
+        ensures board { self.new ≡ round_board (rounds self.old points.now live.old (S.ReadStore.nodes store.old) (S.WriteStore.room store.old)) self.old }
+        ensures nodes { S.ReadStore.nodes store.new ≡ round_nodes (rounds self.old points.now live.old (S.ReadStore.nodes store.old) (S.WriteStore.room store.old)) (S.ReadStore.nodes store.old) }
+        ensures room { S.WriteStore.room store.new ≡ S.WriteStore.room store.old }
+        ensures live { RoundLive (rounds self.old points.now live.old (S.ReadStore.nodes store.old) (S.WriteStore.room store.old)) live.old live.new }
+    {
+        if !(points.len() >= LEAST_POINTS && live.len() >= LEAST_LIVE) {
+            return Err(Refusal::new(Cause::TableTooShort, Layer::Build, 0));
+        }
+        let Stage::Layered = self.stage else {
+            return Err(Refusal::new(Cause::NotThisStage, Layer::Build, 0));
+        };
+        let points = front(points, usize::from(self.size.inner) + 4);
+        let count = usize::from(self.live);
+        let count = rounds::round(self.size, points, live, count, self.rounds, store)?;
+        self.live = sixteen_bits(count);
+        self.rounds = self.rounds.saturating_add(1);
+        Ok(())
+    }
+
+    /// Makes a Layered sheet Sealed whose inner vertices are all taken out; a refusal leaves the board as it is.
+    pub fn seal<S: ReadStore>(&mut self, live: &[u16], store: &S) -> Result<(), Refusal>
+        ensures said { result ≡ seals self.old live.now (S.nodes store.now) }
+        ensures board { self.new ≡ seal_board (seals self.old live.now (S.nodes store.now)) self.old }
+    {
+        if live.len() < LEAST_LIVE {
+            return Err(Refusal::new(Cause::TableTooShort, Layer::Build, 0));
+        }
+        let Stage::Layered = self.stage else {
+            return Err(Refusal::new(Cause::NotThisStage, Layer::Build, 0));
+        };
+        let live = front(live, usize::from(self.live));
+        sealing::seal(self.size.inner, live, store)?;
+        self.stage = Stage::Sealed;
+        Ok(())
     }
 
     /// Makes an empty Draft and empties the store; never refused.

@@ -39,6 +39,10 @@ wrong_point z ps =
     first_of (unlike same_point 0 (corners z.width z.height) (take 4 ps))
     (option_map (λ i. 4 + i) (position (λ p. not (is_inside z p)) (take z.inner (drop 4 ps))))
 
+-- the first wrong entry of the points; entry 0 where no sheet has this size
+abbrev pub wrong_vertex : Size → List Point → Option ℕ
+wrong_vertex z ps = cond (is_size z) (wrong_point z ps) (Some 0)
+
 -- a loop's entry, where the loops before it have `start` corners together
 abbrev pub is_entry : Size → ℕ → Loop → Bool
 is_entry z start l =

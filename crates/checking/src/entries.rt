@@ -1,7 +1,7 @@
 //! The first entry of the tables that is not as it is where they hold a sheet.
 ghost use Rattle.std.specs.Prelude.{◌≡◌, ◌+◌, ◌≤◌, drop, length, not, position, take};
 ghost use Rattle.rules.specs.Held.{loop_edges as loop_edges_of};
-ghost use Rattle.checking.specs.Entries.{is_entry as is_entry_of, is_inside as is_inside_of, is_link as is_link_of, is_size as is_size_of, is_within as is_within_of, next_start as next_start_of, unlike as unlike_of, wrong_edge as wrong_edge_of, wrong_entry as wrong_entry_of, wrong_link as wrong_link_of, wrong_loop as wrong_loop_of, wrong_point as wrong_point_of, wrong_ring as wrong_ring_of};
+ghost use Rattle.checking.specs.Entries.{is_entry as is_entry_of, is_inside as is_inside_of, is_link as is_link_of, is_size as is_size_of, is_within as is_within_of, next_start as next_start_of, unlike as unlike_of, wrong_edge as wrong_edge_of, wrong_entry as wrong_entry_of, wrong_link as wrong_link_of, wrong_loop as wrong_loop_of, wrong_point as wrong_point_of, wrong_ring as wrong_ring_of, wrong_vertex as wrong_vertex_of};
 
 use plane::{Edge, Point};
 use rules::loop_edges;
@@ -21,8 +21,8 @@ fn is_within(least: u16, most: u16, x: u16) -> bool
     least <= x && x <= most
 }
 
-// The first of these, as many as there are.
-pub(crate) fn front<T>(items: &[T], count: usize) -> &[T]
+/// The first of these, as many as there are.
+pub fn front<T>(items: &[T], count: usize) -> &[T]
     ensures { result.now ≡ take count items.now }
 {
     &items[..items.len().min(count)]
@@ -72,6 +72,17 @@ fn wrong_point(size: Size, points: &[Point]) -> Option<usize>
     }
     let inner = front(behind(points, 4), usize::from(size.inner));
     not_inside(size, inner).map(|i| 4 + i)
+}
+
+/// The first entry of the points that is not as it is where the tables hold a sheet of this size, and entry 0 where no sheet has it.
+pub fn wrong_vertex(size: Size, points: &[Point]) -> Option<usize>
+    ensures { result ≡ wrong_vertex_of size points.now }
+{
+    if is_size(size) {
+        wrong_point(size, points)
+    } else {
+        Some(0)
+    }
 }
 
 // Whether a loop's entry is right, where the loops before it have `start` corners together.

@@ -6,7 +6,7 @@ ghost use Rattle.checking.specs.Held.{HeldIsRead, LoadedIsHeld};
 mod entries;
 mod tables;
 
-pub use entries::wrong_entry;
+pub use entries::{front, wrong_entry, wrong_vertex};
 pub use tables::{LEAST_STROKES, check_tables, have_room};
 
 /// Tables that are long enough have no wrong entry exactly where they hold a sheet, and then it is the one that is read off them.

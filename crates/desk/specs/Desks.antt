@@ -1,8 +1,10 @@
 -- A desk at the start, and what a load takes of it.
-use Rattle.std.specs.Prelude.{◌≡◌, ℕ, List, Result, vec_len}
+use Rattle.std.specs.Prelude.{◌≡◌, ℕ, List, length, Result, vec_len}
+use Rattle.nodes.specs.declared.node.Node.{Node}
 use Rattle.refusal.specs.declared.Refusal.{Refusal}
 use Rattle.sheet.specs.Sheets.{Sheet}
-use Rattle.board.specs.Turns.{bare, checks, loads}
+use Rattle.rounds.specs.Rounds.{Rounded}
+use Rattle.board.specs.Turns.{bare, checks, cuts, loads, rounds}
 use Rattle.desk.specs.declared.Desk.{Desk}
 use Rattle.desk.specs.declared.Lengths.{Lengths}
 
@@ -18,6 +20,14 @@ pub record IsFresh (l : Lengths) (d : Desk) : Type 0 where
 -- what a check of the desk's tables answers
 abbrev pub desk_checks : Desk → Result (Unit {0}) Refusal
 desk_checks d = checks d.board d.points.items d.edges.items d.loops.items (vec_len d.strokes)
+
+-- what a cut of the desk's tables makes
+abbrev pub desk_cuts : Desk → ℕ → Result (List Node) Refusal
+desk_cuts d room = cuts d.board d.points.items d.edges.items d.loops.items (length d.live.items) room
+
+-- what a round over the desk's tables makes
+abbrev pub desk_rounds : Desk → List Node → ℕ → Result Rounded Refusal
+desk_rounds d nodes room = rounds d.board d.points.items d.live.items nodes room
 
 -- what a load takes over the desk's tables
 abbrev pub desk_loads : Desk → List ℕ → Result Sheet Refusal

@@ -5,11 +5,14 @@ ghost use Rattle.std.specs.Prelude.{◌≡◌, IfOk, Ok as Good, vec_len};
 ghost use Rattle.reader.specs.Reading.{and_then};
 ghost use Rattle.sheet.specs.Load.{upon};
 ghost use Rattle.sheet.specs.Sheets.{edges_of, loops_of, points_of};
-ghost use Rattle.board.specs.Turns.{check_board, load_board};
-ghost use Rattle.desk.specs.Desks.{IsFresh, desk_checks, desk_loads};
+ghost use Rattle.bottom.specs.Cuts.{cut_live, cut_nodes};
+ghost use Rattle.rounds.specs.Rounds.{RoundLive, round_nodes};
+ghost use Rattle.board.specs.Turns.{check_board, cut_board, load_board, round_board, seal_board, seals};
+ghost use Rattle.desk.specs.Desks.{IsFresh, desk_checks, desk_cuts, desk_loads, desk_rounds};
 
 use board::{Board, LEAST_LIVE};
 use checking::LEAST_STROKES;
+use nodes::{ReadStore, WriteStore};
 use plane::{Edge, Point};
 use refusal::Refusal;
 use rules::Stroke;
@@ -92,6 +95,56 @@ impl Desk {
         let loops = self.loops.as_slice();
         let strokes = self.strokes.as_mut_slice();
         self.board.check(points, edges, loops, strokes)
+    }
+
+    /// Cuts the loops of a Checked sheet into the store, and makes it Layered, as the board does.
+    pub fn cut<S: WriteStore>(&mut self, store: &mut S) -> Result<(), Refusal>
+        ensures said { result ≡ and_then (desk_cuts self.old (S.WriteStore.room store.old)) (λ _. Good tt) }
+        ensures board { self.new.board ≡ cut_board (desk_cuts self.old (S.WriteStore.room store.old)) self.old.board }
+        ensures nodes { S.ReadStore.nodes store.new ≡ cut_nodes (desk_cuts self.old (S.WriteStore.room store.old)) (S.ReadStore.nodes store.old) }
+        ensures room { S.WriteStore.room store.new ≡ S.WriteStore.room store.old }
+        ensures live { self.new.live.items ≡ cut_live (desk_cuts self.old (S.WriteStore.room store.old)) self.old.live.items }
+        ensures points { self.new.points.items ≡ self.old.points.items }
+        ensures edges { self.new.edges.items ≡ self.old.edges.items }
+        ensures loops { self.new.loops.items ≡ self.old.loops.items }
+        ensures strokes { self.new.strokes.items ≡ self.old.strokes.items }
+    {
+        let points = self.points.as_slice();
+        let edges = self.edges.as_slice();
+        let loops = self.loops.as_slice();
+        let live = self.live.as_mut_slice();
+        self.board.cut(points, edges, loops, live, store)
+    }
+
+    /// One round of a Layered sheet, as the board makes it.
+    pub fn round<S: WriteStore>(&mut self, store: &mut S) -> Result<(), Refusal>
+        ensures said { result ≡ and_then (desk_rounds self.old (S.ReadStore.nodes store.old) (S.WriteStore.room store.old)) (λ _. Good tt) }
+        ensures board { self.new.board ≡ round_board (desk_rounds self.old (S.ReadStore.nodes store.old) (S.WriteStore.room store.old)) self.old.board }
+        ensures nodes { S.ReadStore.nodes store.new ≡ round_nodes (desk_rounds self.old (S.ReadStore.nodes store.old) (S.WriteStore.room store.old)) (S.ReadStore.nodes store.old) }
+        ensures room { S.WriteStore.room store.new ≡ S.WriteStore.room store.old }
+        ensures live { RoundLive (desk_rounds self.old (S.ReadStore.nodes store.old) (S.WriteStore.room store.old)) self.old.live.items self.new.live.items }
+        ensures points { self.new.points.items ≡ self.old.points.items }
+        ensures edges { self.new.edges.items ≡ self.old.edges.items }
+        ensures loops { self.new.loops.items ≡ self.old.loops.items }
+        ensures strokes { self.new.strokes.items ≡ self.old.strokes.items }
+    {
+        let points = self.points.as_slice();
+        let live = self.live.as_mut_slice();
+        self.board.round(points, live, store)
+    }
+
+    /// Seals a Layered sheet whose inner vertices are all taken out, as the board does.
+    pub fn seal<S: ReadStore>(&mut self, store: &S) -> Result<(), Refusal>
+        ensures said { result ≡ seals self.old.board self.old.live.items (S.nodes store.now) }
+        ensures board { self.new.board ≡ seal_board (seals self.old.board self.old.live.items (S.nodes store.now)) self.old.board }
+        ensures live { self.new.live.items ≡ self.old.live.items }
+        ensures points { self.new.points.items ≡ self.old.points.items }
+        ensures edges { self.new.edges.items ≡ self.old.edges.items }
+        ensures loops { self.new.loops.items ≡ self.old.loops.items }
+        ensures strokes { self.new.strokes.items ≡ self.old.strokes.items }
+    {
+        let live = self.live.as_slice();
+        self.board.seal(live, store)
     }
 }
 

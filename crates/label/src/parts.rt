@@ -1,14 +1,19 @@
 //! The parts list of a sheet.
-use board::Stage;
 use desk::Desk;
+use nodes::ReadStore;
 use plane::Edge;
 use sheet::{Answer, Loop, Size, wording};
 use std::alloc::{AllocError, Global};
 use std::collections::BTreeMap;
 use std::fmt;
 
-/// Prints the size, the counts, that a checked sheet is in order, and a line for each loop.
-pub(crate) fn print_parts(rt: &HostRuntime, desk: &Desk, file: &[u8]) -> anyhow::Result<()> {
+/// Prints the size and the counts of a sheet in order, how it is layered, and a line for each loop.
+pub(crate) fn print_parts<S: ReadStore>(
+    rt: &HostRuntime,
+    desk: &Desk,
+    store: &S,
+    file: &[u8],
+) -> anyhow::Result<()> {
     let Size {
         width,
         height,
@@ -19,9 +24,10 @@ pub(crate) fn print_parts(rt: &HostRuntime, desk: &Desk, file: &[u8]) -> anyhow:
     println!(rt;
         "sheet {width} x {height}: {inner} inner vertices, {loops} loops, {corners} corners"
     )?;
-    if desk.board.stage() == Stage::Checked {
-        println!(rt; "in order: it keeps the eight rules")?;
-    }
+    println!(rt; "in order: it keeps the eight rules")?;
+    let nodes = store.count();
+    let rounds = desk.board.rounds();
+    println!(rt; "layered: {nodes} nodes in {rounds} rounds")?;
     let words = wordings(rt.alloc(), desk, file)?;
     let room = words
         .values()

@@ -1,4 +1,4 @@
-ghost use Rattle.std.specs.Prelude.{◌≡◌, [], length};
+ghost use Rattle.std.specs.Prelude.{◌≡◌, [], length, take};
 ghost use Rattle.nodes.specs.Nodes.{add_said, added};
 ghost use Rattle.nodes.specs.Stores.{memory_of, stored};
 
@@ -22,6 +22,14 @@ impl<M: Memory> LentStore<M> {
         ensures lent { memory_of result ≡ memory }
     {
         LentStore { memory, used: 0 }
+    }
+
+    /// A store of the first `used` nodes that `memory` has.
+    pub fn over(memory: M, used: usize) -> LentStore<M>
+        ensures nodes { stored M.nodes result ≡ take used (M.nodes memory) }
+        ensures lent { memory_of result ≡ memory }
+    {
+        LentStore { memory, used }
     }
 }
 

@@ -1,5 +1,5 @@
 -- Points of the plane, on which side of a line a point is, and when it is in a segment or on a sheet.
-use Rattle.std.specs.Prelude.{◌==◌, Bool, cond, ◌&&◌, ◌||◌, ℤ, pos, negsuc, ◌+ℤ◌, ◌-ℤ◌, ◌*ℤ◌, int_le, int_lt}
+use Rattle.std.specs.Prelude.{◌==◌, ℕ, Bool, cond, ◌&&◌, ◌||◌, List, ℤ, pos, negsuc, ◌+ℤ◌, ◌-ℤ◌, ◌*ℤ◌, int_le, int_lt, slice_index_or}
 use Rattle.plane.specs.declared.Point.{Point}
 use Rattle.plane.specs.declared.Side.{Side}
 use Rattle.plane.specs.declared.Side.TheVariants.{Right, On, Left}
@@ -21,6 +21,14 @@ same_point a b = a.x == b.x && a.y == b.y
 
 abbrev pub grid_point : Point → GridPoint
 grid_point a = record { x = pos a.x; y = pos a.y }
+
+-- a vertex by its number: (0, 0) where there is no such vertex
+abbrev pub vertex_of : List Point → ℕ → Point
+vertex_of ps v = slice_index_or ps v (record { x = 0; y = 0 })
+
+-- where a vertex is
+abbrev pub place_of : List Point → ℕ → GridPoint
+place_of ps v = grid_point (vertex_of ps v)
 
 abbrev pub spot_at : GridPoint → Spot
 spot_at a = record { X = a.x; Y = a.y; Z = pos 1 }

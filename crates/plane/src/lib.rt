@@ -5,7 +5,7 @@ ghost use Rattle.std.specs.Prelude.{◌≡◌};
 ghost use Rattle.plane.specs.Identities.{Identities};
 ghost use Rattle.plane.specs.Kernels.{within_reach};
 ghost use Rattle.plane.specs.Edges.{same_edge};
-ghost use Rattle.plane.specs.Points.{same_point, side_number};
+ghost use Rattle.plane.specs.Points.{same_point, side_number, vertex_of};
 
 mod determinant;
 mod kernel;
@@ -31,6 +31,16 @@ impl Point {
     {
         self.x <= 8191 && self.y <= 8191
     }
+}
+
+/// Where a vertex is: at (0, 0) where there is no such vertex.
+pub fn place(points: &[Point], vertex: u16) -> Point
+    ensures { result ≡ vertex_of points.now vertex }
+{
+    points
+        .get(usize::from(vertex))
+        .copied()
+        .unwrap_or(Point { x: 0, y: 0 })
 }
 
 /// Two vertices at one point clash.

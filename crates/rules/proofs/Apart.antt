@@ -2,7 +2,7 @@
 use Rattle.std.proofs.Common.{◌≡◌, ℕ, ◌+◌, ◌<◌, ◌⊎◌, length, None, pos, ◌<ℤ◌, refl, sym, ap, ◌∙◌, subst, inl, inr}
 use Rattle.plane.specs.declared.Edge.{Edge}
 use Rattle.plane.specs.Edges.{In, back, outside}
-use Rattle.plane.specs.Points.{GridPoint, Spot, spot_at}
+use Rattle.plane.specs.Points.{GridPoint, Spot, place_of, spot_at}
 use Rattle.clash.specs.Clashes.{IsFree, first_clash_in}
 use Rattle.clash.proofs.Firsts.{IsFree-from_None}
 use Rattle.sheet.specs.Legal.{LegalSheet}
@@ -14,7 +14,7 @@ use Rattle.tiling.proofs.Segments.{Between, between_back}
 use Rattle.tiling.proofs.Sheets.{ends_named, inner, listed_inner, vertex_used}
 use Rattle.rules.specs.Apart.{CheckedLiesApart, inside_edge}
 use Rattle.rules.specs.Planes.{plane_of}
-use Rattle.rules.specs.Rules.{drawn_edges, first_broken, place_of, touch}
+use Rattle.rules.specs.Rules.{drawn_edges, first_broken, touch}
 use Rattle.rules.proofs.Drawn.{has_drawn, two_free}
 use Rattle.rules.proofs.Nothing.{kept, nothing_made}
 use Rattle.rules.proofs.Orders.{checked_is_in_order, listed_edges}

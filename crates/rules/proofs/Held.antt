@@ -8,7 +8,8 @@ use Rattle.plane.specs.Edges.{ring_edges, sum}
 use Rattle.clash.specs.Clashes.{first_clash_in}
 use Rattle.sheet.specs.Sheets.{Ring, Sheet, edges_of, loops_from, loops_of, points_of}
 use Rattle.rules.specs.Held.{loop_edges, loops_broken_at, starts_at, sum_broken_at, triangles_at, turns_broken_at, vertices_broken_at}
-use Rattle.rules.specs.Rules.{loops_broken, names, names_twice, place_of, sum_broken, swept, triangles_in, turns_broken, vertices_broken}
+use Rattle.plane.specs.Points.{place_of}
+use Rattle.rules.specs.Rules.{loops_broken, names, names_twice, sum_broken, swept, triangles_in, turns_broken, vertices_broken}
 use Rattle.rules.proofs.Rows.{rows, starts, starts_ring}
 use Rattle.rules.specs.Tables.{TablesTell}
 
@@ -44,7 +45,7 @@ any_starts v (e ∷ es) = ap (λ b. (e.from == v) || b) (any_starts v es)
 any_start : (v : ℕ) (cs : List ℕ) → list_any (starts_at v) (ring_edges cs) ≡ list_any (λ u. u == v) cs
 any_start v cs = any_starts v (ring_edges cs) ∙ ap (list_any (λ u. u == v)) (starts_ring cs)
 
-triangles_same : (start : ℕ) (rs : List Ring) → triangles_at (loops_from start rs) ≡ triangles_in rs
+pub triangles_same : (start : ℕ) (rs : List Ring) → triangles_at (loops_from start rs) ≡ triangles_in rs
 triangles_same start [] = refl
 triangles_same start (r ∷ rs) = ap (λ n. (length r.corners - 2) + n) (triangles_same (start + length r.corners) rs)
 

@@ -1,5 +1,5 @@
 -- The strokes of a sheet, put one after another into a slice, and the first two of them that touch.
-use Rattle.std.proofs.Common.{◌≡◌, ℕ, ◌≤◌, Bool, true, false, cond, List, [], ◌∷◌, ◌++◌, length, map, nat_lt, take, drop, Ok, Err, Result, sym, refl, ap, ◌∙◌, ◌+◌, ◌==◌, ◌&&◌, Some, subst, slice_index_or, arith}
+use Rattle.std.proofs.Common.{◌≡◌, ℕ, ◌≤◌, Bool, true, false, cond, List, [], ◌∷◌, ◌++◌, length, map, nat_lt, take, drop, Ok, Err, Result, sym, refl, ap, ◌∙◌, ◌+◌, ◌==◌, ◌&&◌, Some, subst, arith}
 use Rattle.std.specs.List.{position}
 use Rattle.std.specs.Option.{option_map}
 use Rattle.std.proofs.lemmas.Bool.Decides.{nat_tests}
@@ -7,13 +7,13 @@ use Rattle.std.proofs.lemmas.Bool.{cond-false}
 use Rattle.std.proofs.lemmas.List.{length-map, map-append}
 use Rattle.plane.specs.declared.Edge.{Edge}
 use Rattle.plane.specs.declared.Point.{Point}
+use Rattle.plane.specs.Points.{place_of, vertex_of}
 use Rattle.clash.specs.Clashes.{clash_or, first_clash_from, first_clash_in}
 use Rattle.refusal.specs.declared.Cause.{Cause}
 use Rattle.refusal.specs.declared.Cause.TheVariants.{TableTooShort}
 use Rattle.rules.specs.declared.strokes.Stroke.{Stroke}
-use Rattle.rules.specs.Rules.{first_listed, later_of, place_of, touch}
+use Rattle.rules.specs.Rules.{first_listed, later_of, touch}
 use Rattle.rules.specs.Strokes.{room_said, stroke_of, strokes_of, strokes_said, strokes_touch}
-use Rattle.sheet.specs.Sheets.{point}
 use Rattle.rules.specs.Segments.{boxes_meet}
 use Rattle.rules.proofs.Boxes.{apart_never_meet, end_is_start, ends_shared, start_is_end, starts_shared}
 use Rattle.rules.proofs.Positions.{position_cons, position_map}
@@ -47,7 +47,7 @@ same_number u v h = grind (arith, nat_tests)
 
 module _ (ps : List Point) (e f : Edge) where
   at : ℕ → Point
-  at v = slice_index_or ps v (point 0 0)
+  at v = vertex_of ps v
 
   boxed : ℕ → ℕ → Type 0
   boxed u v = boxes_meet (at e.from) (at e.to) (at u) (at v) ≡ true

@@ -7,7 +7,7 @@ use Rattle.std.proofs.lemmas.List.FromFn.{get_or-range_with_len, length-range_wi
 use Rattle.plane.specs.declared.Edge.{Edge}
 use Rattle.plane.specs.declared.Point.{Point}
 use Rattle.plane.specs.Edges.{In, Once, back, outside, ring_edges}
-use Rattle.plane.specs.Points.{grid_point}
+use Rattle.plane.specs.Points.{grid_point, place_of}
 use Rattle.plane.proofs.Signs.{lin}
 use Rattle.sheet.specs.Legal.{Inside, LegalRing}
 use Rattle.sheet.specs.Sheets.{Ring, Sheet, edges_of, point, points_of}
@@ -15,7 +15,7 @@ use Rattle.tiling.specs.Cells.{listed}
 use Rattle.tiling.specs.Order.{Inner}
 use Rattle.tiling.proofs.Lists.{in_map}
 use Rattle.rules.specs.Planes.{CheckedIsInOrder, plane_of}
-use Rattle.rules.specs.Rules.{is_listed, names, place_of, reverses_broken}
+use Rattle.rules.specs.Rules.{is_listed, names, reverses_broken}
 use Rattle.plane.specs.Edges.{same_edge}
 use Rattle.plane.specs.Points.{same_point}
 use Rattle.rules.proofs.Elements.{all_in, none_passes, once_from_free, some_passes}

@@ -2,10 +2,10 @@
 use Rattle.std.specs.Prelude.{◌≡◌, ℕ, ◌+◌, ◌<◌, ◌⊎◌, length, true, None, pos, ◌<ℤ◌}
 use Rattle.plane.specs.declared.Edge.{Edge}
 use Rattle.plane.specs.Edges.{In, back}
-use Rattle.plane.specs.Points.{Spot, between, spot_at}
+use Rattle.plane.specs.Points.{Spot, between, place_of, spot_at}
 use Rattle.sheet.specs.Legal.{LegalSheet}
 use Rattle.sheet.specs.Sheets.{Sheet, edges_of, points_of}
-use Rattle.rules.specs.Rules.{first_broken, place_of}
+use Rattle.rules.specs.Rules.{first_broken}
 
 -- p is in the edge, and at neither end
 abbrev pub inside_edge : Sheet → Edge → Spot → Type 0

@@ -6,7 +6,8 @@ use Rattle.refusal.specs.declared.Cause.TheVariants.{LoopSum, SamePoint, VertexT
 use Rattle.refusal.specs.declared.Layer.TheVariants.{Check}
 use Rattle.refusal.specs.Numbers.{refused}
 use Rattle.sheet.specs.Sheets.{Ring, Sheet, point}
-use Rattle.rules.specs.Rules.{first_broken, place_of, touch}
+use Rattle.plane.specs.Points.{place_of}
+use Rattle.rules.specs.Rules.{first_broken, touch}
 
 abbrev unnamed : List ℕ → Ring
 unnamed cs = record { numeral = 0; corners = cs }

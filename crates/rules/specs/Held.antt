@@ -6,12 +6,12 @@ use Rattle.std.specs.Option.{option_map}
 use Rattle.plane.specs.declared.Point.{Point}
 use Rattle.plane.specs.declared.Edge.{Edge}
 use Rattle.plane.specs.Edges.{back, same_edge, sum}
-use Rattle.plane.specs.Points.{same_point}
+use Rattle.plane.specs.Points.{place_of, same_point}
 use Rattle.refusal.specs.declared.Cause.TheVariants.{LoopSum, SamePoint, VertexTwice, EdgeTwice, NoReverse, VertexUnused, EdgesTouch, LoopTurned}
 use Rattle.refusal.specs.declared.Refusal.{Refusal}
 use Rattle.sheet.specs.declared.tables.Loop.{Loop}
 use Rattle.clash.specs.Clashes.{first_clash_in}
-use Rattle.rules.specs.Rules.{first_listed, is_listed, later_of, or_else, place_of, swept, told, touch}
+use Rattle.rules.specs.Rules.{first_listed, is_listed, later_of, or_else, swept, told, touch}
 
 -- the edges of a loop, and its corners
 abbrev pub loop_edges : List Edge → Loop → List Edge

@@ -4,7 +4,8 @@ use Rattle.tiling.specs.Cells.{Subdivision}
 use Rattle.tiling.specs.Order.{InOrder}
 use Rattle.sheet.specs.Legal.{LegalSheet}
 use Rattle.sheet.specs.Sheets.{Sheet, points_of}
-use Rattle.rules.specs.Rules.{first_broken, place_of}
+use Rattle.plane.specs.Points.{place_of}
+use Rattle.rules.specs.Rules.{first_broken}
 
 abbrev pub plane_of : Sheet → Subdivision
 plane_of s =

@@ -1,17 +1,16 @@
 -- The eight rules of a sheet, each by the first place where it is broken.
-use Rattle.std.specs.Prelude.{ℕ, ◌+◌, ◌-◌, ◌*◌, Bool, not, cond, ◌&&◌, ◌||◌, List, [], ◌∷◌, ◌++◌, length, position, ℤ, pos, ◌-ℤ◌, ◌*ℤ◌, int_lt, ◌==◌, slice_index_or, Some, None, Option, is_some}
+use Rattle.std.specs.Prelude.{ℕ, ◌+◌, ◌-◌, ◌*◌, Bool, not, cond, ◌&&◌, ◌||◌, List, [], ◌∷◌, ◌++◌, length, position, ℤ, pos, ◌-ℤ◌, ◌*ℤ◌, int_lt, ◌==◌, Some, None, Option, is_some}
 use Rattle.std.specs.List.{list_any, range_with_len}
 use Rattle.std.specs.Option.{option_map}
-use Rattle.plane.specs.declared.Point.{Point}
 use Rattle.plane.specs.declared.Edge.{Edge}
 use Rattle.plane.specs.Edges.{back, ring_edges, same_edge, sum}
-use Rattle.plane.specs.Points.{GridPoint, det, grid_point, on_segment, same_point, spot_at}
+use Rattle.plane.specs.Points.{GridPoint, det, on_segment, place_of, same_point, spot_at}
 use Rattle.refusal.specs.declared.Cause.{Cause}
 use Rattle.refusal.specs.declared.Cause.TheVariants.{LoopSum, SamePoint, VertexTwice, EdgeTwice, NoReverse, VertexUnused, EdgesTouch, LoopTurned}
 use Rattle.refusal.specs.declared.Layer.TheVariants.{Check}
 use Rattle.refusal.specs.declared.Refusal.{Refusal}
 use Rattle.refusal.specs.Numbers.{refused}
-use Rattle.sheet.specs.Sheets.{Ring, Sheet, edges_of, point, points_of}
+use Rattle.sheet.specs.Sheets.{Ring, Sheet, edges_of, points_of}
 use Rattle.clash.specs.declared.ClashAt.{ClashAt}
 use Rattle.clash.specs.Clashes.{first_clash_in}
 
@@ -64,10 +63,6 @@ first_listed before (e ∷ es) = cond (is_listed before (back e)) (first_listed 
 
 abbrev pub drawn_edges : Sheet → List Edge
 drawn_edges s = first_listed [] (edges_of s)
-
--- where a vertex of the sheet is
-abbrev pub place_of : List Point → ℕ → GridPoint
-place_of ps v = grid_point (slice_index_or ps v (point 0 0))
 
 -- q is on the segment from a to b, or at an end
 abbrev pub lies_on : GridPoint → GridPoint → GridPoint → Bool

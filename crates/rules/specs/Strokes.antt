@@ -1,7 +1,8 @@
 -- The edges of a sheet with where their ends are, and when two of them touch.
-use Rattle.std.specs.Prelude.{◌≡◌, ◌≤◌, ℕ, Bool, cond, ◌==◌, ◌&&◌, List, [], length, map, nat_lt, slice_index_or, Option, Ok, Err, Result, is_some}
+use Rattle.std.specs.Prelude.{◌≡◌, ◌≤◌, ℕ, Bool, cond, ◌==◌, ◌&&◌, List, [], length, map, nat_lt, Option, Ok, Err, Result, is_some}
 use Rattle.plane.specs.declared.Point.{Point}
 use Rattle.plane.specs.declared.Edge.{Edge}
+use Rattle.plane.specs.Points.{vertex_of}
 use Rattle.refusal.specs.declared.Cause.{Cause}
 use Rattle.refusal.specs.declared.Cause.TheVariants.{TableTooShort, LoopSum, SamePoint, VertexTwice, EdgeTwice, NoReverse, VertexUnused, EdgesTouch, LoopTurned}
 use Rattle.refusal.specs.declared.Refusal.{Refusal}
@@ -9,15 +10,15 @@ use Rattle.refusal.specs.declared.Layer.TheVariants.{Check}
 use Rattle.refusal.specs.Numbers.{refused}
 use Rattle.sheet.specs.declared.tables.Loop.{Loop}
 use Rattle.sheet.specs.Legal.{LegalSheet}
-use Rattle.sheet.specs.Sheets.{Sheet, edges_of, loops_of, point, points_of}
+use Rattle.sheet.specs.Sheets.{Sheet, edges_of, loops_of, points_of}
 use Rattle.rules.specs.declared.strokes.Stroke.{Stroke}
 use Rattle.rules.specs.Held.{edges_broken_at, loops_broken_at, points_broken_at, reverses_broken_at, strokes_broken_at, sum_broken_at, turns_broken_at, vertices_broken_at}
 use Rattle.rules.specs.Rules.{first_broken, first_listed, or_else, told}
 use Rattle.rules.specs.Segments.{boxes_meet, meet_at, overlap_at}
 
--- a vertex, or (0, 0) where there is no such vertex
+-- an edge with where its ends are
 abbrev pub stroke_of : List Point → Edge → Stroke
-stroke_of ps e = record { edge = e; start = slice_index_or ps e.from (point 0 0); end = slice_index_or ps e.to (point 0 0) }
+stroke_of ps e = record { edge = e; start = vertex_of ps e.from; end = vertex_of ps e.to }
 
 -- the edges as they are first listed, with where their ends are
 abbrev pub strokes_of : List Point → List Edge → List Stroke

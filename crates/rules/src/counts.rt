@@ -4,9 +4,9 @@ ghost use Rattle.rules.specs.Held.{sum_broken_at};
 
 use sheet::Loop;
 
-// Rule 13: as many triangles as tile a sheet with so many inner vertices. What is missing of them is counted down, so that nothing is too
-// large to count.
-pub(crate) fn sum_broken(inner: u16, loops: &[Loop]) -> Option<usize>
+/// Rule 13: as many triangles as tile a sheet with so many inner vertices.
+// What is missing of them is counted down, so that nothing is too large to count.
+pub fn sum_broken(inner: u16, loops: &[Loop]) -> Option<usize>
     ensures { result ≡ sum_broken_at inner loops.now }
 {
     let mut missing = 2 * u32::from(inner) + 2;

@@ -16,6 +16,7 @@ mod turns;
 
 pub use broken::first_broken;
 pub use corners::loop_edges;
+pub use counts::sum_broken;
 pub use strokes::Stroke;
 
 /// A sheet within its limits that keeps the rules is a subdivision of the plane in order.

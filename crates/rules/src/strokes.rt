@@ -6,9 +6,8 @@ ghost use Rattle.rules.specs.Strokes.{room_said, stroke_of, strokes_join, stroke
 
 use crate::listed::{back, is_behind};
 use crate::segments::{boxes_meet, meet, overlap};
-use crate::turns::place;
 use clash::{Clash, first_clash};
-use plane::{Edge, Point};
+use plane::{Edge, Point, place};
 use refusal::Cause;
 
 /// An edge of a sheet, with where its ends are.

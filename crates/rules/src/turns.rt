@@ -1,23 +1,13 @@
 //! The rule over the areas of the loops.
-ghost use Rattle.std.specs.Prelude.{◌≡◌, ◌≤◌, ◌<◌, ◌^◌, ◌*◌, int_lt, length, pos, slice_index_or, unsigned_abs};
+ghost use Rattle.std.specs.Prelude.{◌≡◌, ◌≤◌, ◌<◌, ◌^◌, ◌*◌, int_lt, length, pos, unsigned_abs};
 ghost use Rattle.plane.specs.Edges.{sum};
 ghost use Rattle.rules.specs.Held.{loop_edges as loop_edges_of, turns_broken_at};
-ghost use Rattle.rules.specs.Rules.{place_of, swept as swept_by};
-ghost use Rattle.sheet.specs.Sheets.{point};
+ghost use Rattle.plane.specs.Points.{place_of};
+ghost use Rattle.rules.specs.Rules.{swept as swept_by};
 
 use crate::corners::loop_edges;
-use plane::{Edge, Point};
+use plane::{Edge, Point, place};
 use sheet::Loop;
-
-// Where a vertex is: at (0, 0) where there is no such vertex.
-pub(crate) fn place(points: &[Point], vertex: u16) -> Point
-    ensures { result ≡ slice_index_or points.now vertex (point 0 0) }
-{
-    points
-        .get(usize::from(vertex))
-        .copied()
-        .unwrap_or(Point { x: 0, y: 0 })
-}
 
 // Twice the area that an edge sweeps from the sheet's corner (0, 0).
 fn swept(points: &[Point], edge: Edge) -> i64

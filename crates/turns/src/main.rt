@@ -2,6 +2,7 @@
 #![tactic(auto)]
 
 mod alter;
+mod stored;
 mod table;
 mod words;
 

@@ -1,25 +1,41 @@
 use crate::alter::alter;
+use crate::stored::{MOST_NODES, play};
 use crate::words::{bytes_of, digest};
-use board::Board;
 use desk::{Desk, LEAST, Lengths};
-use nodes::{Node, SliceStore};
+use nodes::{BlockStore, Node, ReadStore, SliceStore};
 use refusal::Refusal;
 use sheet::{Answer, Size, wording};
 use std::alloc::{AllocError, Global};
 
-/// A board with tables and a store of its own.
+// The most bytes that a script may ask for: a thousand whole blocks, and one byte more.
+const MOST_BYTES: u32 = 512_001;
+
+/// What a board keeps its nodes in.
+#[derive(Drop)]
+enum Memory {
+    /// Records, a node in each.
+    Slots(Vec<Node>),
+    /// Bytes, in blocks.
+    Blocks(Vec<u8>),
+}
+
+/// A board with tables of its own, and with memory of which the first `used` nodes are in use.
+// A store lends its memory only as long as a command is played, so between two of them a number stands for it.
 #[derive(Drop)]
 pub(crate) struct Table {
     desk: Desk,
-    nodes: Vec<Node>,
+    memory: Memory,
+    used: usize,
 }
 
 impl Table {
-    /// An empty Draft, over tables of these lengths.
+    /// An empty Draft, over tables of these lengths and room for the nodes of every sheet.
     pub(crate) fn new(heap: Global, lengths: Lengths) -> Result<Table, AllocError> {
+        let slots = vec![in heap; Node::default(); MOST_NODES]?;
         Ok(Table {
             desk: Desk::new(heap, lengths)?,
-            nodes: vec![in heap; Node::default(); 18]?,
+            memory: Memory::Slots(slots),
+            used: 0,
         })
     }
 
@@ -35,7 +51,6 @@ impl Table {
         match next() {
             "load" => self.load(rt, next()),
             "check" => self.check(rt),
-            "wipe" => self.wipe(rt),
             "alter" => {
                 let said = alter(&mut self.desk, next(), next(), [next(), next(), next()]);
                 Ok(rt.println(said)?)
@@ -44,8 +59,72 @@ impl Table {
             "short" => self.shorten(rt, next(), next()),
             "tables" => self.print_tables(rt),
             "wording" => print_wording(rt, next(), answer_of(next(), next(), next())),
-            _ => Ok(rt.println("unknown command")?),
+            "capacity" => self.keep_in_slots(rt, next()),
+            "blocks" => self.keep_in_blocks(rt, next()),
+            "live" => self.print_live(rt),
+            name => self.play_on_store(rt, name),
         }
+    }
+
+    // Plays a command on the board and a store over its memory.
+    fn play_on_store(&mut self, rt: &HostRuntime, name: &str) -> anyhow::Result<()> {
+        match &mut self.memory {
+            Memory::Slots(slots) => {
+                let mut store = SliceStore::over(slots.as_mut_slice(), self.used);
+                play(rt, &mut self.desk, &mut store, name)?;
+                self.used = store.count();
+            }
+            Memory::Blocks(bytes) => {
+                let mut store = BlockStore::over(bytes.as_mut_slice(), self.used);
+                play(rt, &mut self.desk, &mut store, name)?;
+                self.used = store.count();
+            }
+        }
+        Ok(())
+    }
+
+    // A new board, over records for so many nodes.
+    fn keep_in_slots(&mut self, rt: &HostRuntime, count: &str) -> anyhow::Result<()> {
+        let Ok(count) = count.parse::<u16>() else {
+            return Ok(rt.println("no such capacity")?);
+        };
+        let heap = rt.alloc();
+        let slots = vec![in heap; Node::default(); usize::from(count)]?;
+        *self = Table {
+            desk: Desk::new(heap, LEAST)?,
+            memory: Memory::Slots(slots),
+            used: 0,
+        };
+        Ok(rt.println("ok")?)
+    }
+
+    // A new board, over so many bytes for its nodes.
+    fn keep_in_blocks(&mut self, rt: &HostRuntime, count: &str) -> anyhow::Result<()> {
+        let Ok(count) = count.parse::<u32>() else {
+            return Ok(rt.println("no such capacity")?);
+        };
+        let heap = rt.alloc();
+        let bytes = vec![in heap; 0; count.min(MOST_BYTES) as usize]?;
+        *self = Table {
+            desk: Desk::new(heap, LEAST)?,
+            memory: Memory::Blocks(bytes),
+            used: 0,
+        };
+        Ok(rt.println("ok")?)
+    }
+
+    // The numbers of the live nodes.
+    fn print_live(&self, rt: &HostRuntime) -> anyhow::Result<()> {
+        rt.print("ok")?;
+        for node in self
+            .desk
+            .live
+            .iter()
+            .take(usize::from(self.desk.board.live()))
+        {
+            print!(rt; " {node}")?;
+        }
+        Ok(rt.println("")?)
     }
 
     fn load(&mut self, rt: &HostRuntime, hex: &str) -> anyhow::Result<()> {
@@ -57,12 +136,6 @@ impl Table {
 
     fn check(&mut self, rt: &HostRuntime) -> anyhow::Result<()> {
         print_turn(rt, self.desk.check())
-    }
-
-    fn wipe(&mut self, rt: &HostRuntime) -> anyhow::Result<()> {
-        let mut store = SliceStore::new(self.nodes.as_mut_slice());
-        self.desk.board.wipe(&mut store);
-        Ok(rt.println("ok")?)
     }
 
     fn print_stage(&self, rt: &HostRuntime) -> anyhow::Result<()> {
@@ -139,14 +212,16 @@ impl Table {
     }
 }
 
-fn print_turn(rt: &HostRuntime, outcome: Result<(), Refusal>) -> anyhow::Result<()> {
+/// Prints whether a turn is granted, or its refusal.
+pub(crate) fn print_turn(rt: &HostRuntime, outcome: Result<(), Refusal>) -> anyhow::Result<()> {
     match outcome {
         Ok(()) => Ok(rt.println("ok")?),
         Err(refusal) => print_refusal(rt, refusal),
     }
 }
 
-fn print_refusal(rt: &HostRuntime, refusal: Refusal) -> anyhow::Result<()> {
+/// Prints a refusal.
+pub(crate) fn print_refusal(rt: &HostRuntime, refusal: Refusal) -> anyhow::Result<()> {
     let number = refusal.cause.number();
     let layer = refusal.layer.number();
     let place = refusal.place;

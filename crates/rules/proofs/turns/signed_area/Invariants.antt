@@ -1,6 +1,7 @@
 use Rattle.std.proofs.Common.{◌≡◌, ◌≤◌, ◌*◌, drop, unsigned_abs, ◌+ℤ◌}
 use Rattle.plane.specs.Edges.{sum}
-use Rattle.rules.specs.Rules.{place_of, swept}
+use Rattle.plane.specs.Points.{place_of}
+use Rattle.rules.specs.Rules.{swept}
 use Rattle.rules.proofs.turns.signed_area.Given as goal
 
 -- the area so far, with what the edges from here on sweep, is that of all of them

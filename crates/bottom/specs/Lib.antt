@@ -1,0 +1,2 @@
+pub mod Bottom
+pub mod Cuts

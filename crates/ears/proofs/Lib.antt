@@ -1,0 +1,4 @@
+pub mod Searches
+pub mod Boxes
+pub mod Rotations
+pub mod Steps

@@ -1,0 +1,4 @@
+pub mod Ears
+pub mod Cutting
+pub mod Shapes
+pub mod Examples

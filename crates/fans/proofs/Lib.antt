@@ -1,0 +1,3 @@
+pub mod Gathering
+pub mod Fans
+pub mod Whole

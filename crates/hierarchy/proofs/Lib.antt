@@ -1,0 +1,9 @@
+pub mod Elements
+pub mod Looks
+pub mod Corners
+pub mod Holes
+pub mod Bottoms
+pub mod Shares
+pub mod Growth
+pub mod Theorems
+pub mod Turns

@@ -1,0 +1,4 @@
+pub mod Layers
+pub mod Theorems
+pub mod Examples
+pub mod Turns

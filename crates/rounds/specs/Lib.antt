@@ -1,0 +1,3 @@
+pub mod Choices
+pub mod Rounds
+pub mod Near
