@@ -1,0 +1,93 @@
+-- A walk over the nodes of a checked sheet arrives at a bottom node that holds the point.
+use Rattle.std.proofs.Common.{◌≡◌, ℕ, zero, suc, ◌+◌, ◌<◌, ◌≤◌, ◌==◌, true, false, ◌&&◌, List, Some, Ok, length, take, pos, ◌<ℤ◌, nat_le, nat_lt, refl, sym, ap, ◌∙◌, subst, inl, inr, arith}
+use Rattle.std.proofs.lemmas.Bool.{cases_Bool, cond-false, cond-true}
+use Rattle.std.proofs.lemmas.Bool.Decides.{nat_tests}
+use Rattle.plane.specs.Edges.{In}
+use Rattle.plane.specs.Points.{Spot}
+use Rattle.nodes.specs.declared.node.Node.{Node}
+use Rattle.sheet.specs.Sheets.{Sheet}
+use Rattle.hierarchy.specs.Layers.{child, node_at}
+use Rattle.hierarchy.specs.Theorems.{Made}
+use Rattle.hierarchy.proofs.Theorems.{children_are_earlier, children_cover, corners_are_vertices}
+use Rattle.walk.specs.declared.steps.Walked.{Walked}
+use Rattle.walk.specs.Telling.{side_in}
+use Rattle.walk.specs.Walks.{children_of, down_from, go_down, is_whole, walk_on, walked}
+use Rattle.walk.proofs.Children.{child_in, in_children}
+use Rattle.walk.proofs.Finding.{Finds, Fits, Holds, first_found}
+
+module _ (s : Sheet) (nodes : List Node) (live made : List ℕ) (rounds : ℕ) (m : Made s nodes live made rounds) (p : Spot) (z : pos 0 <ℤ p.Z) where
+  pub whole : (k : ℕ) → k < length nodes → is_whole (side_in s p) (length s.inner + 4) nodes (node_at nodes k) ≡ true
+  whole k inside =
+      let c = corners_are_vertices s nodes live made rounds m k inside in
+      let n = node_at nodes k in
+      all_below n.a n.b n.c (length s.inner + 4) (c n.a (inl refl)) (c n.b (inr (inl refl))) (c n.c (inr (inr (inl refl))))
+    where
+      all_below : (a b c n : ℕ) → a < n → b < n → c < n → (nat_lt a n && (nat_lt b n && nat_lt c n)) ≡ true
+      all_below a b c n h k l = grind (arith, nat_tests)
+
+  abbrev pub Arrives : (steps k tests : ℕ) → Type 0
+  Arrives steps k tests =
+      (b t : ℕ) × (down_from (side_in s p) (length s.inner + 4) nodes steps k tests ≡ Ok (walked (Some b) t))
+      × (b < length nodes) × ((node_at nodes b).count ≡ 0) × Holds s nodes p b
+
+  lower : (k : ℕ) → k < length nodes → (x : ℕ) → In x (take (node_at nodes k).count (children_of nodes k)) → x < k
+  lower k inside x i =
+      let e = (children_are_earlier s nodes live made rounds m).1 k inside in
+      let r = in_children nodes k (node_at nodes k).count x i in
+      subst (λ c. c < k) (sym r.2) (e.2 r.0 r.1).0
+
+  pub is_below : (x k : ℕ) → x < k → nat_lt x k ≡ true
+  is_below x k h = grind (arith, nat_tests)
+
+  children_fit : (k : ℕ) → k < length nodes → Fits s nodes p k (take (node_at nodes k).count (children_of nodes k))
+  children_fit k inside =
+      record {
+        below = λ x i. is_below x k (lower k inside x i);
+        whole = λ x i. let l = lower k inside x i in whole x (omega (arith, l, inside));
+      }
+
+  -- a node with children, of which one holds the point
+  module _ (steps k tests : ℕ) (h : k < suc steps) (inside : k < length nodes) (holds : Holds s nodes p k) (some : ((node_at nodes k).count == 0) ≡ false) where
+    found : Finds s nodes p k k (take (node_at nodes k).count (children_of nodes k)) tests
+    found =
+        let n = node_at nodes k in
+        let e = (children_are_earlier s nodes live made rounds m).1 k inside in
+        let c = children_cover s nodes live made rounds m k inside (above n.count some) p z holds in
+        first_found s nodes p k k (take n.count (children_of nodes k)) tests (children_fit k inside) (child n c.0) (child_in nodes k n.count c.0 e.1 c.1) c.2
+      where
+        above : (c : ℕ) → (c == 0) ≡ false → 0 < c
+        above c e = grind (arith, nat_tests)
+
+    deeper : ((c t : ℕ) → c < steps → c < length nodes → Holds s nodes p c → Arrives steps c t) → Arrives (suc steps) k tests
+    unfolding down_from
+    deeper next =
+        let e = (children_are_earlier s nodes live made rounds m).1 k inside in
+        let w = found.0 in
+        let c = found.2.0 in
+        let l = lower k inside c found.2.2 in
+        let r = next c w.tests (omega (arith, l, h)) (omega (arith, l, inside)) found.2.3 in (
+          r.0,
+          r.1,
+          cond-false _ _ _ some ∙ cond-true _ _ _ (few (node_at nodes k).count e.1)
+              ∙ ap (λ f. walk_on f (λ (w : Walked). go_down (side_in s p) (length s.inner + 4) nodes k (down_from (side_in s p) (length s.inner + 4) nodes steps) w.node w.tests)) found.1
+              ∙ ap (λ o. go_down (side_in s p) (length s.inner + 4) nodes k (down_from (side_in s p) (length s.inner + 4) nodes steps) o w.tests) found.2.1
+              ∙ r.2,
+          r.3,
+          r.4,
+          r.5,
+        )
+      where
+        few : (c : ℕ) → c ≤ 8 → nat_le c 8 ≡ true
+        few c h = grind (arith, nat_tests)
+
+  pub arrives : (steps k tests : ℕ) → k < steps → k < length nodes → Holds s nodes p k → Arrives steps k tests
+  unfolding down_from
+  arrives zero k tests h inside holds = absurd (omega (arith, h))
+  arrives (suc steps) k tests h inside holds =
+      elim (cases_Bool ((node_at nodes k).count == 0)) [
+        | inl e ↦ (k, tests, cond-true _ _ _ e, inside, none (node_at nodes k).count e, holds)
+        | inr e ↦ deeper steps k tests h inside holds e (λ c t l i g. arrives steps c t l i g)
+      ]
+    where
+      none : (c : ℕ) → (c == 0) ≡ true → c ≡ 0
+      none c e = grind (arith, nat_tests)

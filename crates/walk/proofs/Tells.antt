@@ -1,0 +1,91 @@
+-- A walk over the nodes of a checked sheet tells the one cell that holds the point.
+use Rattle.std.proofs.Common.{◌≡◌, ℕ, ◌+◌, ◌<◌, ◌≤◌, true, List, Some, Ok, Err, length, pos, ◌<ℤ◌, nat_le, nat_lt, sym, ap, ◌∙◌, subst, arith}
+use Rattle.std.proofs.lemmas.Bool.{and_from, cond-true}
+use Rattle.std.proofs.lemmas.Bool.Decides.{nat_tests}
+use Rattle.std.proofs.lemmas.List.{length-map}
+use Rattle.plane.specs.Points.{Spot, is_on_sheet}
+use Rattle.nodes.specs.declared.node.Node.{Node}
+use Rattle.sheet.specs.Sheets.{Ring, Sheet, edges_of}
+use Rattle.tiling.specs.Cells.{cell_holds}
+use Rattle.tiling.proofs.Theorems.{one_cell, triangle_tells}
+use Rattle.bottom.specs.Bottom.{bottom_of, is_drawn}
+use Rattle.rules.specs.Planes.{plane_of}
+use Rattle.rules.proofs.Orders.{checked_is_in_order}
+use Rattle.hierarchy.specs.Layers.{Layers, node_at, shape, triangles_of_loop}
+use Rattle.hierarchy.specs.Layers.Layers.{bottom, round}
+use Rattle.hierarchy.specs.Theorems.{Made}
+use Rattle.hierarchy.proofs.Theorems.{bottom_is_cut, childless_is_bottom, live_covers, nodes_turn_left}
+use Rattle.walk.specs.declared.steps.Walked.{Walked}
+use Rattle.walk.specs.Telling.{WalkTells, cell_of, side_in}
+use Rattle.walk.specs.Walks.{down_from, find_said, found, go_down, told_at, told_node, walk_from, walk_on, walked}
+use Rattle.walk.proofs.Arriving.{arrives, is_below, whole}
+use Rattle.walk.proofs.Cells.{few_sides, node_tells}
+use Rattle.walk.proofs.Finding.{Fits, Holds, first_found}
+
+-- nodes that cuts and rounds made have a bottom
+has_bottom : (s : Sheet) (nodes : List Node) (live made : List ℕ) (r : ℕ) → Layers s nodes live made r → (ns : List Node) × (bottom_of s ≡ Ok ns)
+has_bottom s nodes live made r (bottom ns h) = (ns, h)
+has_bottom s nodes live made r (round nodes' live' made' r' layers f h) = has_bottom s nodes' live' made' r' layers
+
+module _ (s : Sheet) (nodes : List Node) (live made : List ℕ) (rounds : ℕ) (m : Made s nodes live made rounds) (p : Spot) (z : pos 0 <ℤ p.Z)
+    (on : is_on_sheet (pos s.width) (pos s.height) p ≡ true) where
+  live_fit : Fits s nodes p (length nodes) live
+  live_fit =
+      let there = (nodes_turn_left s nodes live made rounds m).1 in
+      record {
+        below = λ k i. is_below s nodes live made rounds m p z k (length nodes) (there k i);
+        whole = λ k i. whole s nodes live made rounds m p z k (there k i);
+      }
+
+  -- the walk comes to a bottom node that holds the point
+  Comes : Type 0
+  Comes =
+      (b t : ℕ) × (walk_from (side_in s p) (length s.inner + 4) nodes live ≡ Ok (walked (Some b) t))
+      × (b < length nodes) × ((node_at nodes b).count ≡ 0) × Holds s nodes p b
+
+  comes : Comes
+  unfolding Comes
+  comes =
+      let there = (nodes_turn_left s nodes live made rounds m).1 in
+      let top = live_covers s nodes live made rounds m p z on in
+      let f = first_found s nodes p 0 (length nodes) live 0 live_fit top.0 top.1 top.2 in
+      let c = f.2.0 in
+      let a = arrives s nodes live made rounds m p z (length nodes) c f.0.tests (there c f.2.2) (there c f.2.2) f.2.3 in
+      let down = down_from (side_in s p) (length s.inner + 4) nodes (length nodes) in (
+        a.0,
+        a.1,
+        ap (λ r. walk_on r (λ (w : Walked). go_down (side_in s p) (length s.inner + 4) nodes 0 down w.node w.tests)) f.1
+            ∙ ap (λ o. go_down (side_in s p) (length s.inner + 4) nodes 0 down o f.0.tests) f.2.1
+            ∙ a.2,
+        a.3,
+        a.4,
+        a.5,
+      )
+
+pub walk_tells : WalkTells
+unfolding find_said Comes
+walk_tells s nodes live made rounds m few p z on =
+    let a = comes s nodes live made rounds m p z on in
+    let ns = has_bottom s nodes live made rounds m.layers in
+    let cb = childless_is_bottom s ns.0 ns.1 nodes live made rounds m in
+    let n = node_at nodes a.0 in
+    let bn = (cb.1 a.0 (cb.2 a.0 a.3 a.4)).1 in
+    let es = edges_of s in
+    let ring = bn.ring in
+    let marks = ap (λ k. nat_lt k 8) bn.sides ∙ few_sides (is_drawn es n.a n.b) (is_drawn es n.b n.c) (is_drawn es n.c n.a) in
+    let right = and_from _ _ (is_below s nodes live made rounds m p z n.ring (length s.rings) ring) marks in
+    let answer = told_node (side_in s p) n in
+    let said =
+    cond-true _ _ _ (within (length live) few)
+    ∙ ap (λ r. walk_on r (λ (w : Walked). told_at (side_in s p) nodes (length s.rings) w.node w.tests)) a.2
+    ∙ cond-true _ (Ok (found answer a.1)) (Err a.0) right in
+    let order = checked_is_in_order s m.legal m.checked in
+    let cut = bottom_is_cut s ns.0 ns.1 in
+    let loops = length-map s.rings (λ (r : Ring). r.corners) in
+    let tells = (triangle_tells (plane_of s) (triangles_of_loop s) order cut p z).1 n.ring (omega (arith, ring, loops)) (shape n) bn.cut a.5 in
+    let holds = subst (λ c. cell_holds (plane_of s) c p ≡ true) (sym (node_tells s p n bn.sides)) tells in
+    let one = one_cell (plane_of s) (triangles_of_loop s) order cut p z on in
+    (found answer a.1, said, holds, λ d h. one.2 d h ∙ sym (one.2 (cell_of answer) holds))
+  where
+    within : (k : ℕ) → k ≤ 65535 → nat_le k 65535 ≡ true
+    within k h = grind (arith, nat_tests)
