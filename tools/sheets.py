@@ -4,6 +4,8 @@ A file is kept as a list of named fields, so that a case can say "the spring
 file with its field H as these bytes" and knows at which byte that field is.
 """
 
+import random
+
 
 def number(value):
     """A number in groups of seven bits, the lowest first."""
@@ -114,8 +116,9 @@ def largest():
     return file(8191, 8191, inner, loops, labels)
 
 
-def grid(side, triangles):
-    """A sheet of 8,000 by 8,000 with side by side inner vertices.
+def grid_loops(side, triangles):
+    """The inner vertices and the loops of a sheet of 8,000 by 8,000 with side
+    by side inner vertices.
 
     Their squares are faces, and four loops lie about them; or each loop is
     cut into triangles, those about the squares from a corner of the sheet.
@@ -138,7 +141,12 @@ def grid(side, triangles):
     if triangles:
         loops = [[loop[0], b, c]
                  for loop in loops for b, c in zip(loop[1:], loop[2:])]
-    return sheet(8000, 8000, inner, loops)
+    return inner, loops
+
+
+def grid(side, triangles):
+    """The sheet of these."""
+    return sheet(8000, 8000, *grid_loops(side, triangles))
 
 
 def row_loops(path):
@@ -174,3 +182,56 @@ def spiral(turns):
     loops = [band, [0, 1, 5, 4], [1, 2, 6, 5], [2, 3, 7, 6],
              [3, 0, 4] + band[:2:-1]]
     return sheet(size, size, inner, loops)
+
+
+def is_inside(corners, p):
+    """Whether p is left of each side of a triangle."""
+    return all((bx - ax) * (p[1] - ay) > (by - ay) * (p[0] - ax)
+               for (ax, ay), (bx, by) in zip(corners, corners[1:] + corners[:1]))
+
+
+def split_at_random(draw, width, height, inner):
+    """The points of a sheet, and triangles as its loops: so many points are
+    drawn, and each that is inside one of the triangles so far splits that."""
+    points = [(0, 0), (width, 0), (width, height), (0, height)]
+    loops = [[0, 1, 2], [0, 2, 3]]
+    for _ in range(inner):
+        p = draw.randrange(1, width), draw.randrange(1, height)
+        for i, loop in enumerate(loops):
+            if is_inside([points[v] for v in loop], p):
+                v, (a, b, c) = len(points), loops.pop(i)
+                loops += [[v, a, b], [v, b, c], [v, c, a]]
+                points.append(p)
+                break
+    return points, loops
+
+
+def turned_from(loop, v):
+    """The corners of a loop from v on."""
+    i = loop.index(v)
+    return loop[i:] + loop[:i]
+
+
+def joined_at_random(draw, loops, edges):
+    """The loops with up to so many edges between two of them taken out, where
+    the two have nothing in common but that edge."""
+    for _ in range(edges):
+        first = draw.choice(loops)
+        a, b = turned_from(first, draw.choice(first))[:2]
+        for other in loops:
+            if set(first) & set(other) == {a, b} and turned_from(other, a)[-1] == b:
+                loops.remove(first)
+                loops.remove(other)
+                # From b round to a, and on from a to the corner before b.
+                loops.append(turned_from(first, b) + turned_from(other, a)[1:-1])
+                break
+    return loops
+
+
+def scattered(seed, width, height, inner, edges):
+    """A sheet drawn at random, always the same for the same numbers: a split
+    into triangles at up to so many inner vertices, from which up to so many
+    edges are taken out again."""
+    draw = random.Random(seed)
+    points, loops = split_at_random(draw, width, height, inner)
+    return sheet(width, height, points[4:], joined_at_random(draw, loops, edges))

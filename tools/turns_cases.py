@@ -6,7 +6,8 @@ STDIN gets the script (its language: tools/reference/play.py), STDOUT what the
 reference prints for it. Cases written by hand also name their outcome; if the
 reference differs from one of them, nothing is written. The cases of check are
 in check_cases.py, rule_cases.py and altered_cases.py, those of cut, round and
-seal in layer_cases.py and layer_altered_cases.py.
+seal in layer_cases.py and layer_altered_cases.py, those of place in
+place_cases.py and place_altered_cases.py.
 """
 
 import sys
@@ -15,6 +16,8 @@ from altered_cases import altered_cases
 from check_cases import check_cases
 from layer_altered_cases import layer_altered_cases
 from layer_cases import layer_cases
+from place_altered_cases import place_altered_cases
+from place_cases import place_cases
 from rule_cases import rule_cases
 from sheets import SPRING, SPRING_FIELDS, file, largest, number
 from turns_script import KINDS, NOTHING, Script, at, cut, spring
@@ -390,7 +393,7 @@ def main():
                  corner_limit, labels, ends_and_rest, pairs_at_one_byte, pairs_in_reading_order,
                  pairs_of_labels, changed_bytes, kept_limits, largest_file, kept_sheets,
                  short_tables, check_cases, rule_cases, altered_cases, layer_cases,
-                 layer_altered_cases):
+                 layer_altered_cases, place_cases, place_altered_cases):
         part(s)
     for path, lines in zip(sys.argv[1:3], (s.lines, s.outcomes)):
         with open(path, "w", encoding="ascii") as out:

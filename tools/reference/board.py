@@ -2,15 +2,19 @@
 
 The order in which each turn tries its refusals is that of docs/REFUSALS.md
 ("Order"). Every turn gives a Refusal, or None when it is granted; a granted
-round gives the list of the vertices it took out.
+round gives the list of the vertices it took out (those that no live node has
+as a corner any more), a granted place the answer and the count of tests.
 """
 
 import layers
 from altered import first_altered, first_altered_layers
+from cells import holding
 from rules import drawing, first_broken
 from sheetfile import FILE_LAYER, Refusal, read
+from tips import fit, on_sheet
+from walk import walked
 
-CHECK_LAYER, BUILD_LAYER = 2, 3
+CHECK_LAYER, BUILD_LAYER, PLACE_LAYER = 2, 3, 4
 
 LEAST = {"points": 1028, "edges": 6154, "strokes": 3077, "loops": 2050,
          "live": 2050}
@@ -40,6 +44,7 @@ class Board:
     def __init__(self, lengths=LEAST, capacity=NODES):
         self.table = {name: [BLANK[name]] * lengths[name] for name in LEAST}
         self.capacity = capacity
+        self.altered = False  # since the last granted check
         self.wipe()
 
     def wipe(self):
@@ -98,7 +103,8 @@ class Board:
         if broken is not None:
             number, place = broken
             return Refusal(number, CHECK_LAYER, place)
-        self.stage = "Checked"
+        # Whatever was altered before, what passed is a sheet.
+        self.stage, self.altered = "Checked", False
         return None
 
     def cut(self):
@@ -147,7 +153,10 @@ class Board:
             return Refusal(22, BUILD_LAYER, len(after[0]))
         self.keep(*after)
         self.rounds += 1
-        return list(found)
+        # In a node that was altered, a vertex may be a noted corner of itself;
+        # then it is a corner of the new nodes too.
+        left = layers.spokes(self.nodes, self.live_nodes())
+        return [v for v in found if v not in left]
 
     def seal(self):
         if self.too_short(["live"]):
@@ -166,6 +175,40 @@ class Board:
             return Refusal(27, BUILD_LAYER, len(live))
         self.stage = "Sealed"
         return None
+
+    def place(self, kernel, tip):
+        if self.too_short(["points", "live"]):
+            return Refusal(12, PLACE_LAYER, 0)
+        if self.stage != "Sealed":
+            return Refusal(28, PLACE_LAYER, 0)
+        if not fit(kernel, tip):
+            return Refusal(25, PLACE_LAYER, 0)
+        if not on_sheet(tip, self.width, self.height):
+            return Refusal(26, PLACE_LAYER, 0)
+        found = walked(self.held()[0], self.nodes, self.live_nodes(), self.loops, tip)
+        self.compare(tip, found)
+        return Refusal(27, PLACE_LAYER, found) if isinstance(found, int) else found
+
+    def compare(self, tip, found):
+        """One cell alone holds the tip, and the walk told that one."""
+        if self.altered:
+            return
+        cells = holding(drawing(*self.held()), tip)
+        if isinstance(found, int) or cells != [found[0]]:
+            raise SystemExit(f"tip {tip}: the walk tells {found}, held by {cells}")
+
+    def alter(self, name, entry, row):
+        """The caller changes an entry; whether there is such an entry."""
+        table = self.table.get(name)
+        if entry >= (self.capacity if table is None else len(table)):
+            return False
+        self.altered = True
+        if table is not None:
+            table[entry] = row[0] if name == "live" else tuple(row)
+        elif entry < len(self.nodes):
+            # Past the nodes there is memory that no turn reads.
+            self.nodes[entry] = layers.node_of(row)
+        return True
 
     def tables(self):
         points, edges, loops = self.held()

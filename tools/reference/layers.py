@@ -17,13 +17,24 @@ class Node:
     corners: tuple  # the vertices a, b, c
     loop: int = 0
     sides: int = 0
-    children: list = field(default_factory=list)
+    count: int = 0  # how many of the children are in use
+    children: list = field(default_factory=lambda: [0] * MOST_CHILDREN)
 
     def numbers(self):
-        """The fourteen numbers of the node; unused children are 0."""
-        unused = [0] * (MOST_CHILDREN - len(self.children))
-        return [*self.corners, self.loop, self.sides, len(self.children),
-                *self.children, *unused]
+        """The fourteen numbers of the node."""
+        return [*self.corners, self.loop, self.sides, self.count, *self.children]
+
+
+def node_of(numbers):
+    """The node of fourteen numbers, whatever they are."""
+    a, b, c, loop, sides, count, *children = numbers
+    return Node((a, b, c), loop, sides, count, children)
+
+
+def closing_node(triangle, fan):
+    """A node that closes a hole; the children that are not in use are 0."""
+    unused = [0] * (MOST_CHILDREN - len(fan))
+    return Node(triangle, count=len(fan), children=fan + unused)
 
 
 def turn(points, a, b, c):
@@ -92,7 +103,8 @@ def spokes(nodes, live):
     """Of each inner vertex that is left: (number, p, q) of its live nodes."""
     found = {}
     for number in live:
-        for v in nodes[number].corners:
+        # A node that was altered may have a vertex twice, and is its spoke once.
+        for v in set(nodes[number].corners):
             if v >= 4:
                 p, q = turns_to(nodes[number], v)
                 found.setdefault(v, []).append((number, p, q))
@@ -139,6 +151,6 @@ def take_out(nodes, live, found):
     gone = set()
     for children, triangles in found.values():
         gone.update(children)
-        after += [Node(t, children=children) for t in triangles]
+        after += [closing_node(t, children) for t in triangles]
     new = range(len(nodes), len(after))
     return after, [number for number in live if number not in gone] + list(new)

@@ -11,6 +11,9 @@ the commands from `load` to `blocks`, the program `tips` the others.
     cut                    a turn
     round                  a turn: ok VERTICES, those taken out, in order
     seal                   a turn
+    place X Y              a turn on the tip (X, Y): ok KIND P Q tests T, the
+                           answer (KIND as for `wording`) and its test count
+    placeq X Y Z           the same of the tip (X/Z, Y/Z)
     wipe                   a turn
     stage                  ok STAGE: Draft, Checked, Layered or Sealed
     tables                 ok WIDTH HEIGHT INNER LOOPS CORNERS LIVE
@@ -23,7 +26,8 @@ the commands from `load` to `blocks`, the program `tips` the others.
                            ok none, or ok PLACE TEXT
     alter NAME I NUMBERS   the caller, and no turn, changes entry I of a table:
                            points I X Y, edges I FROM TO,
-                           loops I NUMERAL START CORNERS, live I NODE
+                           loops I NUMERAL START CORNERS, live I NODE,
+                           nodes I, and the fourteen numbers of a node
     short NAME L           a new board over new tables filled with zeros:
                            table NAME has L entries, the others the least
     capacity C             a new board over a store of C nodes
@@ -39,10 +43,11 @@ the commands from `load` to `blocks`, the program `tips` the others.
     make KERNEL X Y        the tip of the kernel whole or rational at a whole
                            point: ok none, ok X Y or ok X Y Z
 
-Of `alter`, another name prints `no such table`; an entry past the table's end,
-or a word that is missing or no number of 16 bits, prints `no such entry`. A C
-that is missing or no number of 16 bits prints `no such capacity`. Where nothing
-is said of it, a new board has a store of 8,194 nodes.
+Of `alter`, another name prints `no such table`; an entry past the table's end
+(of the nodes: past the capacity of the store), or a word that is missing or no
+number of 16 bits, prints `no such entry`. A C that is missing or no number of
+16 bits prints `no such capacity`. Where nothing is said of it, a new board has
+a store of 8,194 nodes.
 A word of a tip that is no number of its type, or is missing, prints `no such
 number`. X and Y of rational tips have 64 bits, Z has 32, all others have 16.
 A refusal prints `refused NUMBER LAYER PLACE`. D is a digest of a list of
@@ -55,12 +60,12 @@ import tips
 from board import LEAST, Board
 from sheetfile import Refusal, wording
 
-COMMANDS = ("load", "check", "cut", "round", "seal", "wipe", "stage", "tables",
-            "cards", "live", "wording", "alter", "short", "capacity", "blocks",
-            "whole", "rational", "make")
+COMMANDS = ("load", "check", "cut", "round", "seal", "place", "placeq", "wipe",
+            "stage", "tables", "cards", "live", "wording", "alter", "short",
+            "capacity", "blocks", "whole", "rational", "make")
 
 # How many numbers an entry has that a caller can alter.
-ENTRY = {"points": 2, "edges": 2, "loops": 3, "live": 1}
+ENTRY = {"points": 2, "edges": 2, "loops": 3, "live": 1, "nodes": 14}
 
 # A block store has 18 nodes in each whole block; no more bytes than these.
 BLOCK, BLOCK_NODES, MOST_BYTES = 512, 18, 512_001
@@ -112,6 +117,22 @@ class Player:
     def seal(self):
         return outcome(self.board.seal())
 
+    def place(self, *words):
+        return self.placed("whole", words)
+
+    def placeq(self, *words):
+        return self.placed("rational", words)
+
+    def placed(self, kernel, words):
+        tip = tips.tip_of(kernel, words)
+        if tip is None:
+            return "no such number"
+        found = self.board.place(kernel, tip)
+        if isinstance(found, Refusal):
+            return told(found)
+        answer, tests = found
+        return f"ok {spaced(answer)} tests {tests}"
+
     def wipe(self):
         self.board.wipe()
         return "ok"
@@ -142,12 +163,9 @@ class Player:
     def alter(self, name="", *words):
         if name not in ENTRY:
             return "no such table"
-        table = self.board.table[name]
         found = tips.numbers(words, [tips.WORD] * (1 + ENTRY[name]))
-        if found is None or found[0] >= len(table):
+        if found is None or not self.board.alter(name, found[0], found[1:]):
             return "no such entry"
-        entry, *row = found
-        table[entry] = row[0] if name == "live" else tuple(row)
         return "ok"
 
     def short(self, name, length):

@@ -55,15 +55,18 @@ def fit(kernel, tip):
     return 1 <= z <= MOST_Z and x <= MOST_XY and y <= MOST_XY
 
 
+def tip_of(kernel, words):
+    """The tip that the first words are; None where one is no number of it."""
+    found = numbers(words, KERNELS[kernel])
+    return found + [1] if found and kernel == "whole" else found
+
+
 def told(kernel, words):
     """The outcome of a command that names a tip, a sheet and a line."""
-    most = KERNELS[kernel]
-    found = numbers(words, most + FRAME)
-    if found is None:
+    tip = tip_of(kernel, words)
+    frame = numbers(words[len(KERNELS[kernel]):], FRAME)
+    if tip is None or frame is None:
         return "no such number"
-    tip, frame = found[:len(most)], found[len(most):]
-    if kernel == "whole":
-        tip.append(1)
     if not fit(kernel, tip):
         return "ok unfit side 0 on no"
     width, height, ax, ay, bx, by = frame

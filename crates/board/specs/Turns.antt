@@ -1,7 +1,7 @@
 -- What each turn answers, and what it leaves of the board.
-use Rattle.std.specs.Prelude.{◌≡◌, ℕ, ◌+◌, ◌==◌, min, take, Bool, true, false, not, cond, List, length, Ok, Err, Result, nat_le}
+use Rattle.std.specs.Prelude.{◌≡◌, ℕ, ◌+◌, ◌==◌, min, take, Bool, true, false, not, cond, List, length, Ok, Err, Option, Result, nat_le}
 use Rattle.refusal.specs.declared.Cause.TheVariants.{NotThisStage, TableTooShort}
-use Rattle.refusal.specs.declared.Layer.TheVariants.{Build, Check, File}
+use Rattle.refusal.specs.declared.Layer.TheVariants.{Build, Check, File, Place}
 use Rattle.refusal.specs.declared.Refusal.{Refusal}
 use Rattle.refusal.specs.Numbers.{refused}
 use Rattle.plane.specs.declared.Point.{Point}
@@ -12,6 +12,9 @@ use Rattle.sheet.specs.Load.{roomy, sheet_of}
 use Rattle.sheet.specs.Sheets.{Sheet, size_of, sizes}
 use Rattle.bottom.specs.Cuts.{cut_room, cut_said}
 use Rattle.nodes.specs.declared.node.Node.{Node}
+use Rattle.placing.specs.Placings.{place_said}
+use Rattle.plane.specs.Points.{Spot}
+use Rattle.walk.specs.declared.Found.{Found}
 use Rattle.rounds.specs.Rounds.{Rounded, round_said}
 use Rattle.sealing.specs.Seals.{seal_said}
 use Rattle.checking.specs.Checks.{check_room, check_said, passes}
@@ -46,6 +49,12 @@ is_checked Draft = false
 is_checked Checked = true
 is_checked Layered = false
 is_checked Sealed = false
+
+abbrev pub is_sealed : Stage → Bool
+is_sealed Draft = false
+is_sealed Checked = false
+is_sealed Layered = false
+is_sealed Sealed = true
 
 -- the tables that a load is lent have their least sizes: 2,050 live numbers, and those of points, edges and loops
 abbrev pub load_room : ℕ → ℕ → ℕ → ℕ → Bool
@@ -99,7 +108,7 @@ abbrev pub cut_board : Result (List Node) Refusal → Board → Board
 cut_board (Ok ns) b = board Layered b.size (length ns) 0
 cut_board (Err e) b = b
 
--- the tables that a round is lent have their least sizes: 1,028 points and 2,050 live numbers; a seal is lent the latter
+-- the tables that a round and a place are lent have their least sizes: 1,028 points and 2,050 live numbers; a seal is lent the latter
 abbrev pub round_room : (points live : ℕ) → Bool
 round_room points live = cond (nat_le 1028 points) (nat_le 2050 live) false
 
@@ -135,3 +144,10 @@ seals b live nodes =
 abbrev pub seal_board : Result (Unit {0}) Refusal → Board → Board
 seal_board (Ok x) b = board Sealed b.size b.live b.rounds
 seal_board (Err e) b = b
+
+-- what is answered to a tip that means this point, or none where it is not fit; a place changes nothing
+abbrev pub places : Board → List Point → List ℕ → List Node → Option Spot → Result Found Refusal
+places b points live nodes tip =
+    cond (round_room (length points) (length live))
+    (cond (is_sealed b.stage) (place_said b.size tip 0 (points_in b points) nodes (live_of b live)) (Err (refused NotThisStage Place 0)))
+    (Err (refused TableTooShort Place 0))

@@ -4,17 +4,20 @@ ghost use Rattle.reader.specs.Reading.{and_then};
 ghost use Rattle.sheet.specs.Sheets.{edges_of, loops_of, points_of};
 ghost use Rattle.bottom.specs.Cuts.{cut_live, cut_nodes};
 ghost use Rattle.rounds.specs.Rounds.{RoundLive, round_nodes};
-ghost use Rattle.board.specs.Turns.{SheetPasses, bare, check_board, checks, cut_board, cuts, round_board, rounds, seal_board, seals, is_loaded, load_board, load_room, loads};
+ghost use Rattle.board.specs.Turns.{SheetPasses, bare, check_board, checks, cut_board, cuts, round_board, round_room, rounds, seal_board, seals, is_loaded, load_board, load_room, loads, places};
+ghost use Rattle.board.specs.Standing.{TipTold};
 
 use crate::stage::{Board, Stage};
 use bottom::cut_tables;
 use checking::{check_tables, front};
 use lent::LentList;
 use nodes::{ReadStore, WriteStore};
-use plane::{Edge, Point};
+use placing::place_tip;
+use plane::{Edge, Kernel, Point};
 use refusal::{Cause, Layer, Refusal};
 use rules::Stroke;
 use sheet::{LEAST_POINTS, Loop, Size};
+use walk::Found;
 
 /// The least length of the table of live nodes.
 pub const LEAST_LIVE: usize = 2050;
@@ -24,6 +27,13 @@ fn have_room(points: &[Point], edges: &[Edge], loops: &[Loop], live: &[u16]) -> 
     ensures { result ≡ load_room (length points.now) (length edges.now) (length loops.now) (length live.now) }
 {
     live.len() >= LEAST_LIVE && sheet::have_room(points, edges, loops)
+}
+
+// Whether the tables that a round and a place are lent have room for every sheet.
+fn have_points(points: &[Point], live: &[u16]) -> bool
+    ensures { result ≡ round_room (length points.now) (length live.now) }
+{
+    points.len() >= LEAST_POINTS && live.len() >= LEAST_LIVE
 }
 
 // A number of sixteen bits, as near as one comes.
@@ -159,7 +169,7 @@ impl Board {
         ensures room { S.WriteStore.room store.new ≡ S.WriteStore.room store.old }
         ensures live { RoundLive (rounds self.old points.now live.old (S.ReadStore.nodes store.old) (S.WriteStore.room store.old)) live.old live.new }
     {
-        if !(points.len() >= LEAST_POINTS && live.len() >= LEAST_LIVE) {
+        if !have_points(points, live) {
             return Err(Refusal::new(Cause::TableTooShort, Layer::Build, 0));
         }
         let Stage::Layered = self.stage else {
@@ -188,6 +198,30 @@ impl Board {
         sealing::seal(self.size.inner, live, store)?;
         self.stage = Stage::Sealed;
         Ok(())
+    }
+
+    /// Names the vertex, open edge or open face of a Sealed sheet that holds the tip, and counts the sides that were tested for it.
+    #[tactic(auto, using(crate::proofs::Standing::tip_told))]
+    pub fn place<K: Kernel, S: ReadStore>(
+        &mut self,
+        tip: &K,
+        points: &[Point],
+        live: &[u16],
+        store: &S,
+    ) -> Result<Found, Refusal>
+        ensures said { result ≡ places self.old points.now live.now (S.nodes store.now) (K.means tip.now) }
+        ensures board { self.new ≡ self.old }
+        ensures tells { TipTold self.old points.now live.now (S.nodes store.now) (K.means tip.now) result }
+    {
+        if !have_points(points, live) {
+            return Err(Refusal::new(Cause::TableTooShort, Layer::Place, 0));
+        }
+        let Stage::Sealed = self.stage else {
+            return Err(Refusal::new(Cause::NotThisStage, Layer::Place, 0));
+        };
+        let points = front(points, usize::from(self.size.inner) + 4);
+        let tops = front(live, usize::from(self.live));
+        place_tip(self.size, tip, 0, points, tops, store)
     }
 
     /// Makes an empty Draft and empties the store; never refused.

@@ -6,15 +6,17 @@ ghost use Rattle.sheet.specs.Sheets.{edges_of, loops_of, points_of};
 ghost use Rattle.reader.specs.Reading.{and_then};
 ghost use Rattle.bottom.specs.Cuts.{cut_live, cut_nodes};
 ghost use Rattle.rounds.specs.Rounds.{RoundLive, round_nodes};
-ghost use Rattle.board.specs.Turns.{bare, check_board, checks, cut_board, cuts, load_board, loads, round_board, rounds, seal_board, seals};
+ghost use Rattle.board.specs.Turns.{bare, check_board, checks, cut_board, cuts, load_board, loads, places, round_board, rounds, seal_board, seals};
+ghost use Rattle.board.specs.Standing.{TipTold};
 ghost use Rattle.board.specs.Sheets.{board_of, checked_board, draft_board, layered_board, said_of, sealed_board};
 
 use crate::stage::{Board, Stage};
 use nodes::{ReadStore, WriteStore};
-use plane::{Edge, Point};
+use plane::{Edge, Kernel, Point};
 use refusal::Refusal;
 use rules::Stroke;
 use sheet::{Loop, Size};
+use walk::Found;
 
 /// A sheet that was loaded, or none yet.
 pub struct Draft {
@@ -225,6 +227,21 @@ impl Layered {
 }
 
 impl Sealed {
+    /// Names the vertex, open edge or open face that holds the tip, as the board's turn does.
+    pub fn place<K: Kernel, S: ReadStore>(
+        &self,
+        tip: &K,
+        points: &[Point],
+        live: &[u16],
+        store: &S,
+    ) -> Result<Found, Refusal>
+        ensures said { result ≡ places (sealed_board self.now) points.now live.now (S.nodes store.now) (K.means tip.now) }
+        ensures tells { TipTold (sealed_board self.now) points.now live.now (S.nodes store.now) (K.means tip.now) result }
+    {
+        let mut board = Board::at(Stage::Sealed, self.size, self.live, self.rounds);
+        board.place(tip, points, live, store)
+    }
+
     /// Gives the sheet up, and empties the store.
     pub fn wipe<S: WriteStore>(self, store: &mut S) -> Draft
         ensures board { draft_board result ≡ bare }

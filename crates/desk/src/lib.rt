@@ -7,17 +7,19 @@ ghost use Rattle.sheet.specs.Load.{upon};
 ghost use Rattle.sheet.specs.Sheets.{edges_of, loops_of, points_of};
 ghost use Rattle.bottom.specs.Cuts.{cut_live, cut_nodes};
 ghost use Rattle.rounds.specs.Rounds.{RoundLive, round_nodes};
-ghost use Rattle.board.specs.Turns.{check_board, cut_board, load_board, round_board, seal_board, seals};
+ghost use Rattle.board.specs.Standing.{TipTold};
+ghost use Rattle.board.specs.Turns.{check_board, cut_board, load_board, places, round_board, seal_board, seals};
 ghost use Rattle.desk.specs.Desks.{IsFresh, desk_checks, desk_cuts, desk_loads, desk_rounds};
 
 use board::{Board, LEAST_LIVE};
 use checking::LEAST_STROKES;
 use nodes::{ReadStore, WriteStore};
-use plane::{Edge, Point};
+use plane::{Edge, Kernel, Point};
 use refusal::Refusal;
 use rules::Stroke;
 use sheet::{LEAST_EDGES, LEAST_LOOPS, LEAST_POINTS, Loop};
 use std::alloc::{AllocError, Global};
+use walk::Found;
 
 /// How many entries each table has.
 #[derive(Clone, Copy, PartialEq, Eq, Debug)]
@@ -145,6 +147,22 @@ impl Desk {
     {
         let live = self.live.as_slice();
         self.board.seal(live, store)
+    }
+
+    /// Names the cell of a Sealed sheet that holds the tip, as the board does.
+    pub fn place<K: Kernel, S: ReadStore>(&mut self, tip: &K, store: &S) -> Result<Found, Refusal>
+        ensures said { result ≡ places self.old.board self.old.points.items self.old.live.items (S.nodes store.now) (K.means tip.now) }
+        ensures tells { TipTold self.old.board self.old.points.items self.old.live.items (S.nodes store.now) (K.means tip.now) result }
+        ensures board { self.new.board ≡ self.old.board }
+        ensures live { self.new.live.items ≡ self.old.live.items }
+        ensures points { self.new.points.items ≡ self.old.points.items }
+        ensures edges { self.new.edges.items ≡ self.old.edges.items }
+        ensures loops { self.new.loops.items ≡ self.old.loops.items }
+        ensures strokes { self.new.strokes.items ≡ self.old.strokes.items }
+    {
+        let points = self.points.as_slice();
+        let live = self.live.as_slice();
+        self.board.place(tip, points, live, store)
     }
 }
 

@@ -1,2 +1,3 @@
 pub mod Spring
+pub mod Worked
 pub mod SpringCells

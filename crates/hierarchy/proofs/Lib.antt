@@ -1,4 +1,5 @@
 pub mod Elements
+pub mod Examples
 pub mod Looks
 pub mod Corners
 pub mod Holes

@@ -1,21 +1,36 @@
-//! Reads a sheet file, checks the sheet, builds its hierarchy, and prints its size, its counts and its parts list.
+//! Reads a sheet file, checks the sheet and builds its hierarchy; prints its parts list, or answers the tips of a file; and draws it where asked.
 #![tactic(auto)]
 
+mod answers;
+mod args;
 mod broken;
+mod decimal;
 mod failure;
 mod parts;
+mod picture;
+mod sealed;
+mod tally;
+mod tips;
+mod wordings;
 
+use answers::Report;
 use anyhow::anyhow;
+use args::{Asked, USAGE, read_words};
 use broken::clash_words;
 use desk::{Desk, LEAST};
 use failure::Failure;
-use nodes::{Node, SliceStore, WriteStore};
-use parts::print_parts;
+use nodes::{Node, ReadStore, SliceStore, WriteStore};
+use parts::write_parts;
+use picture::Picture;
 use refusal::Refusal;
+use sealed::Sealed;
 use std::alloc::Global;
-use std::io::Read;
+use std::fs::File;
+use std::io::{BufReader, BufWriter, Read, Write};
 use std::process::ExitCode;
-use std::{env, fs};
+use std::{env, fs, io};
+use tally::{Cost, Tally};
+use wordings::Wordings;
 
 // One byte more than the largest sheet file has: a longer file is seen to be one, and is never read whole.
 const MOST: u64 = 39_261;
@@ -23,25 +38,30 @@ const MOST: u64 = 39_261;
 // The most nodes that a sheet can have: 2,050 at the bottom, and 6 for each of 1,024 vertices taken out.
 const MOST_NODES: usize = 8194;
 
+// What the program's arguments ask for.
+fn read_arguments(rt: &HostRuntime) -> anyhow::Result<Asked> {
+    let mut words = env::args(rt)?;
+    let _ = words.next();
+    match read_words(words) {
+        Some(asked) => Ok(asked),
+        None => Err(anyhow!(USAGE)),
+    }
+}
+
+// What a file gave, or what failed with the file's name before it.
+fn named<T>(heap: Global, path: &str, outcome: io::Result<T>) -> anyhow::Result<T> {
+    match outcome {
+        Ok(value) => Ok(value),
+        Err(e) => Err(anyhow!(format!(in heap; "{path}: {e}")?)),
+    }
+}
+
 // The first bytes of a file: all of them, where it is no larger than a sheet file can be.
-fn read_file(rt: &HostRuntime, path: &str) -> anyhow::Result<Vec<u8>> {
+fn read_file(rt: &HostRuntime, path: &str) -> io::Result<Vec<u8>> {
     let mut bytes = Vec::new(rt.alloc());
     let file = fs::open(rt, path)?;
     let _ = file.take(MOST).read_to_end(&mut bytes)?;
     Ok(bytes)
-}
-
-// The bytes of the file that the first argument names.
-fn read_argument(rt: &HostRuntime) -> anyhow::Result<Vec<u8>> {
-    let mut args = env::args(rt)?;
-    let _ = args.next();
-    let (Some(path), None) = (args.next(), args.next()) else {
-        return Err(anyhow!("one sheet file is wanted: label SHEET"));
-    };
-    match read_file(rt, path.as_str()) {
-        Ok(file) => Ok(file),
-        Err(e) => Err(anyhow!(format!(in rt.alloc(); "{path}: {e}")?)),
-    }
 }
 
 // Loads and checks the sheet of a file, cuts it, and takes rounds until it is sealed.
@@ -73,14 +93,104 @@ fn take<S: WriteStore>(
     Err(Failure::Refused(refusal, words))
 }
 
-// Prints the parts list of the sheet.
+// A new picture file, with the sheet drawn in it.
+fn begin_picture<S: ReadStore>(
+    rt: &HostRuntime,
+    path: &str,
+    sealed: &Sealed<S>,
+) -> io::Result<Picture<BufWriter<File>>> {
+    let file = BufWriter::new(rt.alloc(), fs::create(rt, path)?)?;
+    Picture::begin(file, sealed)
+}
+
+// Answers the tips of a file.
+fn answer_file<S: ReadStore, W: Write, P: Write>(
+    rt: &HostRuntime,
+    path: &str,
+    sealed: &mut Sealed<S>,
+    report: &mut Report<W, P>,
+) -> anyhow::Result<()> {
+    let heap = rt.alloc();
+    let file = named(heap, path, fs::open(rt, path))?;
+    let mut tips = BufReader::new(heap, file)?;
+    sealed.write_size(&mut report.out)?;
+    sealed.write_layers(&mut report.out)?;
+    report.answer_all(heap, sealed, path, &mut tips)
+}
+
+// Prints and draws what is asked for.
+fn carry_out<S: ReadStore>(
+    rt: &HostRuntime,
+    asked: &Asked,
+    sealed: &mut Sealed<S>,
+) -> anyhow::Result<()> {
+    let heap = rt.alloc();
+    let picture = match &asked.svg {
+        None => None,
+        Some(path) => {
+            let path = path.as_str();
+            Some(named(heap, path, begin_picture(rt, path, sealed))?)
+        }
+    };
+    let mut report = Report {
+        out: BufWriter::new(heap, io::writer(rt))?,
+        picture,
+        tally: Tally::default(),
+    };
+    match &asked.tips {
+        None => write_parts(&mut report.out, sealed)?,
+        Some(path) => answer_file(rt, path.as_str(), sealed, &mut report)?,
+    }
+    end(asked, sealed, report)
+}
+
+// Ends what is printed and drawn.
+fn end<S: ReadStore, W: Write + Drop, P: Write + Drop>(
+    asked: &Asked,
+    sealed: &Sealed<S>,
+    report: Report<W, P>,
+) -> anyhow::Result<()> {
+    let Report {
+        mut out,
+        picture,
+        tally,
+    } = report;
+    if asked.stats {
+        let nodes = sealed.store.count();
+        let rounds = sealed.desk.board.rounds();
+        let cost = Cost(tally);
+        writeln!(out, "nodes {nodes}, rounds {rounds}, {cost}")?;
+    }
+    if asked.tips.is_some() {
+        writeln!(out, "{tally}")?;
+    }
+    out.flush()?;
+    if let Some(mut picture) = picture {
+        if asked.tips.is_some() {
+            picture.write_legend()?;
+        }
+        picture.end()?;
+    }
+    Ok(())
+}
+
+// Takes the sheet, and tells what is asked of it.
 fn run(rt: &HostRuntime) -> Result<(), Failure> {
-    let file = read_argument(rt)?;
-    let mut desk = Desk::new(rt.alloc(), LEAST)?;
-    let mut slots = vec![in rt.alloc(); Node::default(); MOST_NODES]?;
+    let heap = rt.alloc();
+    let asked = read_arguments(rt)?;
+    let path = asked.sheet.as_str();
+    let file = named(heap, path, read_file(rt, path))?;
+    let mut desk = Desk::new(heap, LEAST)?;
+    let mut slots = vec![in heap; Node::default(); MOST_NODES]?;
     let mut store = SliceStore::new(slots.as_mut_slice());
-    take(rt.alloc(), &mut desk, &mut store, file.as_slice())?;
-    print_parts(rt, &desk, &store, file.as_slice())?;
+    take(heap, &mut desk, &mut store, file.as_slice())?;
+    let wordings = Wordings::of(heap, &desk, file.as_slice())?;
+    let mut sealed = Sealed {
+        desk,
+        store,
+        wordings,
+    };
+    carry_out(rt, &asked, &mut sealed)?;
     Ok(())
 }
 

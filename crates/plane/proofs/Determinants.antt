@@ -1,7 +1,8 @@
 -- The identities of the determinant, each by one computation.
-use Rattle.std.proofs.Common.{◌≡◌, ℤ, pos, ◌+ℤ◌, ◌-ℤ◌, ◌*ℤ◌, neg_ℤ}
+use Rattle.std.proofs.Common.{◌≡◌, ℤ, pos, ◌+ℤ◌, ◌-ℤ◌, ◌*ℤ◌, neg_ℤ, ap, ◌∙◌}
+use Rattle.plane.specs.declared.Point.{Point}
 use Rattle.plane.specs.Identities.{Identities, blend, height, width}
-use Rattle.plane.specs.Points.{GridPoint, Spot, along, area, det}
+use Rattle.plane.specs.Points.{GridPoint, Spot, along, area, det, grid_point, side_of, spot_at}
 use Rattle.plane.proofs.Ring.{lit, ◌⊕◌, ◌⊖◌, ◌⊗◌, minus, ring, same?}
 use Rattle.plane.proofs.Symbols.{aˢ, alongˢ, areaˢ, bˢ, blendˢ, cˢ, detˢ, gˢ, heightˢ, pˢ, uˢ, vˢ, variables, widthˢ}
 
@@ -35,6 +36,17 @@ module _ (a b c : GridPoint) (p g : Spot) (u v : ℤ) where
   joined : p.Z *ℤ det a b p ≡ height b p *ℤ width a p -ℤ height a p *ℤ width b p
   unfolding det same?
   joined = ring (variables a b c p g u v) (pˢ.Z ⊗ detˢ aˢ bˢ pˢ) (heightˢ bˢ pˢ ⊗ widthˢ aˢ pˢ ⊖ heightˢ aˢ pˢ ⊗ widthˢ bˢ pˢ) tt
+
+from_differences : (a b c : GridPoint) → (a.x -ℤ c.x) *ℤ (b.y -ℤ c.y) -ℤ (a.y -ℤ c.y) *ℤ (b.x -ℤ c.x) ≡ area a b c
+unfolding det same?
+from_differences a b c =
+    let z = pos 0 in
+    ring (variables a b c (spot_at c) (spot_at c) z z) ((aˢ.x ⊖ cˢ.x) ⊗ (bˢ.y ⊖ cˢ.y) ⊖ (aˢ.y ⊖ cˢ.y) ⊗ (bˢ.x ⊖ cˢ.x)) (areaˢ aˢ bˢ cˢ) tt
+
+-- so the side is told by how far a and b are from the point
+pub whole_sided : (at a b : Point) (d : ℤ) → d ≡ (pos a.x -ℤ pos at.x) *ℤ (pos b.y -ℤ pos at.y) -ℤ (pos a.y -ℤ pos at.y) *ℤ (pos b.x -ℤ pos at.x)
+    → side_of d ≡ side_of (area (grid_point a) (grid_point b) (grid_point at))
+whole_sided at a b d h = ap side_of (h ∙ from_differences (grid_point a) (grid_point b) (grid_point at))
 
 pub identities : Identities
 identities =

@@ -1,6 +1,6 @@
 //! The determinant of two points and a tip, in 64 bits. Each step has a bound of its own, so that none can overflow.
 ghost use Rattle.std.specs.Prelude.{◌≡◌, ◌+◌, ◌*◌, ◌^◌, ◌<◌, pos, ◌-ℤ◌, ◌*ℤ◌, unsigned_abs};
-ghost use Rattle.plane.specs.Points.{Spot, det, grid_point, is_on_sheet, side_of};
+ghost use Rattle.plane.specs.Points.{Spot, area, det, grid_point, is_on_sheet, side_of};
 
 use crate::{Point, Side};
 use std::cmp::Ordering;
@@ -94,6 +94,23 @@ fn difference(u: i64, v: i64) -> i64
     ensures { result ≡ u -ℤ v }
 {
     u - v
+}
+
+// On which side of the line from `a` to `b` a whole point is.
+#[tactic(auto, using(crate::proofs::Determinants::whole_sided))]
+pub(crate) fn whole_side(at: Point, a: Point, b: Point) -> Side
+    ensures { result ≡ side_of (area (grid_point a) (grid_point b) (grid_point at)) }
+{
+    sign_of(whole_determinant(at, a, b))
+}
+
+// The determinant of `a`, `b` and a whole point, from how far each is from it: so the sides of a triangle share their differences.
+fn whole_determinant(at: Point, a: Point, b: Point) -> i64
+    ensures { result ≡ (pos a.x -ℤ pos at.x) *ℤ (pos b.y -ℤ pos at.y) -ℤ (pos a.y -ℤ pos at.y) *ℤ (pos b.x -ℤ pos at.x) }
+{
+    let across = product(step(at.x, a.x), step(at.y, b.y));
+    let up = product(step(at.y, a.y), step(at.x, b.x));
+    difference(across, up)
 }
 
 fn sign_of(d: i64) -> Side

@@ -1,7 +1,7 @@
 ghost use Rattle.plane.specs.Kernels.{whole_point};
 ghost use Rattle.std.proofs.Common.{rules};
 
-use crate::determinant::SmallSpot;
+use crate::determinant::whole_side;
 use crate::kernel::Kernel;
 use crate::{Point, Side};
 use std::fmt;
@@ -30,12 +30,11 @@ impl Kernel for WholeTip {
     }
 
     fn side(&self, a: Point, b: Point) -> Side {
-        let spot = SmallSpot {
-            x: u64::from(self.x),
-            y: u64::from(self.y),
-            z: 1,
+        let at = Point {
+            x: self.x,
+            y: self.y,
         };
-        spot.side(a, b)
+        whole_side(at, a, b)
     }
 
     fn on_sheet(&self, width: u16, height: u16) -> bool {

@@ -1,15 +1,23 @@
-//! What a caller may do between turns: change an entry of a table of its own.
+//! What a caller may do between turns: change an entry of a table of its own, or a node in memory of its own.
+use crate::words::number;
 use desk::Desk;
+use nodes::{Node, WriteStore};
 use plane::{Edge, Point};
 use sheet::Loop;
+use std::str::Split;
 
 /// Changes an entry of a table, and answers what is printed of it.
-pub(crate) fn alter(desk: &mut Desk, name: &str, entry: &str, words: [&str; 3]) -> &'static str {
+pub(crate) fn alter(
+    desk: &mut Desk,
+    name: &str,
+    entry: &str,
+    words: &mut Split<'_, char>,
+) -> &'static str {
     match name {
         "points" => put(desk.points.as_mut_slice(), entry, point_of(words)),
         "edges" => put(desk.edges.as_mut_slice(), entry, edge_of(words)),
         "loops" => put(desk.loops.as_mut_slice(), entry, loop_of(words)),
-        "live" => put(desk.live.as_mut_slice(), entry, words[0].parse().ok()),
+        "live" => put(desk.live.as_mut_slice(), entry, number(words)),
         _ => "no such table",
     }
 }
@@ -26,24 +34,54 @@ fn put<T: Copy>(table: &mut [T], entry: &str, value: Option<T>) -> &'static str 
     "ok"
 }
 
-fn point_of(words: [&str; 3]) -> Option<Point> {
-    Some(Point {
-        x: words[0].parse().ok()?,
-        y: words[1].parse().ok()?,
-    })
+/// Puts a node behind those that a store has, and answers what is printed of it.
+// A caller gives it a store over the same memory that ends before the node to be changed: all else stays as it is, whatever the memory is.
+pub(crate) fn put_behind<S: WriteStore>(store: &mut S, node: Node) -> &'static str {
+    match store.add(node) {
+        Ok(()) => "ok",
+        Err(_) => "no such entry",
+    }
 }
 
-fn edge_of(words: [&str; 3]) -> Option<Edge> {
-    Some(Edge {
-        from: words[0].parse().ok()?,
-        to: words[1].parse().ok()?,
-    })
+// So many numbers; none where a word is missing or no number of sixteen bits.
+fn numbers<const N: usize>(words: &mut Split<'_, char>) -> Option<[u16; N]> {
+    let mut found = [0; N];
+    for slot in &mut found {
+        *slot = number(words)?;
+    }
+    Some(found)
 }
 
-fn loop_of(words: [&str; 3]) -> Option<Loop> {
+fn point_of(words: &mut Split<'_, char>) -> Option<Point> {
+    let [x, y] = numbers::<2>(words)?;
+    Some(Point { x, y })
+}
+
+fn edge_of(words: &mut Split<'_, char>) -> Option<Edge> {
+    let [from, to] = numbers::<2>(words)?;
+    Some(Edge { from, to })
+}
+
+fn loop_of(words: &mut Split<'_, char>) -> Option<Loop> {
+    let [numeral, start, corners] = numbers::<3>(words)?;
     Some(Loop {
-        numeral: words[0].parse().ok()?,
-        start: words[1].parse().ok()?,
-        corners: words[2].parse().ok()?,
+        numeral,
+        start,
+        corners,
+    })
+}
+
+/// The node that the next fourteen words stand for, in the order in which stores keep its numbers.
+pub(crate) fn node_of(words: &mut Split<'_, char>) -> Option<Node> {
+    let [a, b, c, ring, sides, count] = numbers::<6>(words)?;
+    let children = numbers::<8>(words)?;
+    Some(Node {
+        a,
+        b,
+        c,
+        ring,
+        sides,
+        count,
+        children,
     })
 }

@@ -2,6 +2,7 @@
 #![tactic(auto)]
 
 mod alter;
+mod placed;
 mod stored;
 mod table;
 mod words;

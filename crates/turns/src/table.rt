@@ -1,11 +1,14 @@
-use crate::alter::alter;
+use crate::alter::{alter, node_of, put_behind};
+use crate::placed::{place, rational_tip, whole_tip};
 use crate::stored::{MOST_NODES, play};
 use crate::words::{bytes_of, digest};
 use desk::{Desk, LEAST, Lengths};
 use nodes::{BlockStore, Node, ReadStore, SliceStore};
+use plane::Kernel;
 use refusal::Refusal;
 use sheet::{Answer, Size, wording};
 use std::alloc::{AllocError, Global};
+use std::str::Split;
 
 // The most bytes that a script may ask for: a thousand whole blocks, and one byte more.
 const MOST_BYTES: u32 = 512_001;
@@ -52,9 +55,14 @@ impl Table {
             "load" => self.load(rt, next()),
             "check" => self.check(rt),
             "alter" => {
-                let said = alter(&mut self.desk, next(), next(), [next(), next(), next()]);
+                let said = match next() {
+                    "nodes" => self.alter_nodes(next(), &mut words),
+                    name => alter(&mut self.desk, name, next(), &mut words),
+                };
                 Ok(rt.println(said)?)
             }
+            "place" => self.place(rt, whole_tip(&mut words)),
+            "placeq" => self.place(rt, rational_tip(&mut words)),
             "stage" => self.print_stage(rt),
             "short" => self.shorten(rt, next(), next()),
             "tables" => self.print_tables(rt),
@@ -81,6 +89,39 @@ impl Table {
             }
         }
         Ok(())
+    }
+
+    // Places a tip, by the nodes in its memory.
+    fn place<K: Kernel + Drop>(&mut self, rt: &HostRuntime, tip: Option<K>) -> anyhow::Result<()> {
+        let Some(tip) = tip else {
+            return Ok(rt.println("no such number")?);
+        };
+        match &mut self.memory {
+            Memory::Slots(slots) => {
+                let store = SliceStore::over(slots.as_mut_slice(), self.used);
+                place(rt, &mut self.desk, &tip, &store)
+            }
+            Memory::Blocks(bytes) => {
+                let store = BlockStore::over(bytes.as_mut_slice(), self.used);
+                place(rt, &mut self.desk, &tip, &store)
+            }
+        }
+    }
+
+    // Changes a node in its memory, and answers what is printed of it.
+    fn alter_nodes(&mut self, entry: &str, words: &mut Split<'_, char>) -> &'static str {
+        let (Ok(entry), Some(node)) = (entry.parse::<u16>(), node_of(words)) else {
+            return "no such entry";
+        };
+        let before = usize::from(entry);
+        match &mut self.memory {
+            Memory::Slots(slots) => {
+                put_behind(&mut SliceStore::over(slots.as_mut_slice(), before), node)
+            }
+            Memory::Blocks(bytes) => {
+                put_behind(&mut BlockStore::over(bytes.as_mut_slice(), before), node)
+            }
+        }
     }
 
     // A new board, over records for so many nodes.

@@ -2,6 +2,13 @@
 ghost use Rattle.std.specs.Iterator.{IsFinite};
 
 use std::alloc::{AllocError, Global};
+use std::num::ParseIntError;
+use std::str::{FromStr, Split};
+
+/// The number that the next word stands for; none where there is no word, or one that is no such number.
+pub(crate) fn number<N: FromStr<Err = ParseIntError>>(words: &mut Split<'_, char>) -> Option<N> {
+    words.next()?.parse::<N>().ok()
+}
 
 // The value of a hexadecimal digit, in small letters only: the library's functions take capitals too.
 fn digit(b: u8) -> Option<u8> {

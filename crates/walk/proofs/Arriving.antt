@@ -1,33 +1,37 @@
 -- A walk over the nodes of a checked sheet arrives at a bottom node that holds the point.
-use Rattle.std.proofs.Common.{◌≡◌, ℕ, zero, suc, ◌+◌, ◌<◌, ◌≤◌, ◌==◌, true, false, ◌&&◌, List, Some, Ok, length, take, pos, ◌<ℤ◌, nat_le, nat_lt, refl, sym, ap, ◌∙◌, subst, inl, inr, arith}
+use Rattle.std.proofs.Common.{◌≡◌, ℕ, zero, suc, ◌+◌, ◌<◌, ◌≤◌, ◌==◌, true, false, List, Some, Ok, length, take, pos, ◌<ℤ◌, nat_le, nat_lt, refl, sym, ap, ◌∙◌, subst, inl, inr, arith}
 use Rattle.std.proofs.lemmas.Bool.{cases_Bool, cond-false, cond-true}
 use Rattle.std.proofs.lemmas.Bool.Decides.{nat_tests}
 use Rattle.plane.specs.Edges.{In}
 use Rattle.plane.specs.Points.{Spot}
 use Rattle.nodes.specs.declared.node.Node.{Node}
-use Rattle.sheet.specs.Sheets.{Sheet}
+use Rattle.sheet.specs.Sheets.{Sheet, points_of}
 use Rattle.hierarchy.specs.Layers.{child, node_at}
 use Rattle.hierarchy.specs.Theorems.{Made}
 use Rattle.hierarchy.proofs.Theorems.{children_are_earlier, children_cover, corners_are_vertices}
 use Rattle.walk.specs.declared.steps.Walked.{Walked}
 use Rattle.walk.specs.Telling.{side_in}
-use Rattle.walk.specs.Walks.{children_of, down_from, go_down, is_whole, walk_on, walked}
+use Rattle.walk.specs.Walks.{children_of, down_from, go_down, walk_on, walked}
 use Rattle.walk.proofs.Children.{child_in, in_children}
-use Rattle.walk.proofs.Finding.{Finds, Fits, Holds, first_found}
+use Rattle.walk.proofs.Finding.{Finds, Fits, Holds, Tested, first_found}
+use Rattle.walk.proofs.Signs.{is_full}
 
 module _ (s : Sheet) (nodes : List Node) (live made : List ℕ) (rounds : ℕ) (m : Made s nodes live made rounds) (p : Spot) (z : pos 0 <ℤ p.Z) where
-  pub whole : (k : ℕ) → k < length nodes → is_whole (side_in s p) (length s.inner + 4) nodes (node_at nodes k) ≡ true
+  pub is_below : (x k : ℕ) → x < k → nat_lt x k ≡ true
+  is_below x k h = grind (arith, nat_tests)
+
+  pub whole : (k : ℕ) → k < length nodes → Tested s nodes p k
   whole k inside =
       let c = corners_are_vertices s nodes live made rounds m k inside in
       let n = node_at nodes k in
-      all_below n.a n.b n.c (length s.inner + 4) (c n.a (inl refl)) (c n.b (inr (inl refl))) (c n.c (inr (inr (inl refl))))
+      is_full (side_in s p) (length (points_of s)) n.a n.b n.c (vertex n.a (c n.a (inl refl))) (vertex n.b (c n.b (inr (inl refl)))) (vertex n.c (c n.c (inr (inr (inl refl)))))
     where
-      all_below : (a b c n : ℕ) → a < n → b < n → c < n → (nat_lt a n && (nat_lt b n && nat_lt c n)) ≡ true
-      all_below a b c n h k l = grind (arith, nat_tests)
+      vertex : (v : ℕ) → v < length s.inner + 4 → nat_lt v (length (points_of s)) ≡ true
+      vertex v h = is_below v (length (points_of s)) (omega (arith, h))
 
   abbrev pub Arrives : (steps k tests : ℕ) → Type 0
   Arrives steps k tests =
-      (b t : ℕ) × (down_from (side_in s p) (length s.inner + 4) nodes steps k tests ≡ Ok (walked (Some b) t))
+      (b t : ℕ) × (down_from (side_in s p) (length (points_of s)) nodes steps k tests ≡ Ok (walked (Some b) t))
       × (b < length nodes) × ((node_at nodes b).count ≡ 0) × Holds s nodes p b
 
   lower : (k : ℕ) → k < length nodes → (x : ℕ) → In x (take (node_at nodes k).count (children_of nodes k)) → x < k
@@ -35,9 +39,6 @@ module _ (s : Sheet) (nodes : List Node) (live made : List ℕ) (rounds : ℕ) (
       let e = (children_are_earlier s nodes live made rounds m).1 k inside in
       let r = in_children nodes k (node_at nodes k).count x i in
       subst (λ c. c < k) (sym r.2) (e.2 r.0 r.1).0
-
-  pub is_below : (x k : ℕ) → x < k → nat_lt x k ≡ true
-  is_below x k h = grind (arith, nat_tests)
 
   children_fit : (k : ℕ) → k < length nodes → Fits s nodes p k (take (node_at nodes k).count (children_of nodes k))
   children_fit k inside =
@@ -69,8 +70,8 @@ module _ (s : Sheet) (nodes : List Node) (live made : List ℕ) (rounds : ℕ) (
           r.0,
           r.1,
           cond-false _ _ _ some ∙ cond-true _ _ _ (few (node_at nodes k).count e.1)
-              ∙ ap (λ f. walk_on f (λ (w : Walked). go_down (side_in s p) (length s.inner + 4) nodes k (down_from (side_in s p) (length s.inner + 4) nodes steps) w.node w.tests)) found.1
-              ∙ ap (λ o. go_down (side_in s p) (length s.inner + 4) nodes k (down_from (side_in s p) (length s.inner + 4) nodes steps) o w.tests) found.2.1
+              ∙ ap (λ f. walk_on f (λ (w : Walked). go_down (side_in s p) (length (points_of s)) nodes k (down_from (side_in s p) (length (points_of s)) nodes steps) w.node w.tests)) found.1
+              ∙ ap (λ o. go_down (side_in s p) (length (points_of s)) nodes k (down_from (side_in s p) (length (points_of s)) nodes steps) o w.tests) found.2.1
               ∙ r.2,
           r.3,
           r.4,

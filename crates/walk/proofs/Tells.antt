@@ -1,11 +1,11 @@
 -- A walk over the nodes of a checked sheet tells the one cell that holds the point.
-use Rattle.std.proofs.Common.{◌≡◌, ℕ, ◌+◌, ◌<◌, ◌≤◌, true, List, Some, Ok, Err, length, pos, ◌<ℤ◌, nat_le, nat_lt, sym, ap, ◌∙◌, subst, arith}
+use Rattle.std.proofs.Common.{◌≡◌, ℕ, ◌<◌, ◌≤◌, true, List, Some, Ok, Err, length, pos, ◌<ℤ◌, nat_le, nat_lt, sym, ap, ◌∙◌, subst, arith}
 use Rattle.std.proofs.lemmas.Bool.{and_from, cond-true}
 use Rattle.std.proofs.lemmas.Bool.Decides.{nat_tests}
 use Rattle.std.proofs.lemmas.List.{length-map}
 use Rattle.plane.specs.Points.{Spot, is_on_sheet}
 use Rattle.nodes.specs.declared.node.Node.{Node}
-use Rattle.sheet.specs.Sheets.{Ring, Sheet, edges_of}
+use Rattle.sheet.specs.Sheets.{Ring, Sheet, edges_of, points_of}
 use Rattle.tiling.specs.Cells.{cell_holds}
 use Rattle.tiling.proofs.Theorems.{one_cell, triangle_tells}
 use Rattle.bottom.specs.Bottom.{bottom_of, is_drawn}
@@ -40,7 +40,7 @@ module _ (s : Sheet) (nodes : List Node) (live made : List ℕ) (rounds : ℕ) (
   -- the walk comes to a bottom node that holds the point
   Comes : Type 0
   Comes =
-      (b t : ℕ) × (walk_from (side_in s p) (length s.inner + 4) nodes live ≡ Ok (walked (Some b) t))
+      (b t : ℕ) × (walk_from (side_in s p) (length (points_of s)) nodes live ≡ Ok (walked (Some b) t))
       × (b < length nodes) × ((node_at nodes b).count ≡ 0) × Holds s nodes p b
 
   comes : Comes
@@ -51,11 +51,11 @@ module _ (s : Sheet) (nodes : List Node) (live made : List ℕ) (rounds : ℕ) (
       let f = first_found s nodes p 0 (length nodes) live 0 live_fit top.0 top.1 top.2 in
       let c = f.2.0 in
       let a = arrives s nodes live made rounds m p z (length nodes) c f.0.tests (there c f.2.2) (there c f.2.2) f.2.3 in
-      let down = down_from (side_in s p) (length s.inner + 4) nodes (length nodes) in (
+      let down = down_from (side_in s p) (length (points_of s)) nodes (length nodes) in (
         a.0,
         a.1,
-        ap (λ r. walk_on r (λ (w : Walked). go_down (side_in s p) (length s.inner + 4) nodes 0 down w.node w.tests)) f.1
-            ∙ ap (λ o. go_down (side_in s p) (length s.inner + 4) nodes 0 down o f.0.tests) f.2.1
+        ap (λ r. walk_on r (λ (w : Walked). go_down (side_in s p) (length (points_of s)) nodes 0 down w.node w.tests)) f.1
+            ∙ ap (λ o. go_down (side_in s p) (length (points_of s)) nodes 0 down o f.0.tests) f.2.1
             ∙ a.2,
         a.3,
         a.4,

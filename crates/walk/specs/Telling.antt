@@ -1,5 +1,5 @@
 -- What a walk over the nodes of a checked sheet tells.
-use Rattle.std.specs.Prelude.{◌≡◌, ℕ, ◌+◌, ◌≤◌, true, List, length, pos, ◌<ℤ◌, Ok}
+use Rattle.std.specs.Prelude.{◌≡◌, ℕ, ◌≤◌, true, List, length, pos, ◌<ℤ◌, Ok}
 use Rattle.plane.specs.declared.Side.{Side}
 use Rattle.plane.specs.Points.{Spot, det, is_on_sheet, place_of, side_of}
 use Rattle.nodes.specs.declared.node.Node.{Node}
@@ -28,6 +28,6 @@ abbrev pub WalkTells : Type 0
 WalkTells =
     (s : Sheet) (nodes : List Node) (live made : List ℕ) (rounds : ℕ) → Made s nodes live made rounds → length live ≤ 65535
     → (p : Spot) → pos 0 <ℤ p.Z → is_on_sheet (pos s.width) (pos s.height) p ≡ true
-    → (f : Found) × (find_said (side_in s p) (length s.inner + 4) nodes (length s.rings) live ≡ Ok f)
+    → (f : Found) × (find_said (side_in s p) (length (points_of s)) nodes (length s.rings) live ≡ Ok f)
     × (cell_holds (plane_of s) (cell_of f.answer) p ≡ true)
     × ((c : Cell) → cell_holds (plane_of s) c p ≡ true → c ≡ cell_of f.answer)

@@ -2,8 +2,11 @@
 -- side of the line from one vertex to another it is.
 use Rattle.std.specs.Prelude.{ℕ, zero, suc, ◌+◌, ◌%◌, ◌/◌, ◌==◌, Bool, true, false, cond, ◌&&◌, List, [], ◌∷◌, length, map, take, nat_le, nat_lt, slice_index_or, Some, None, Option, Ok, Err, Result}
 use Rattle.std.specs.List.{range_with_len}
+use Rattle.plane.specs.declared.Point.{Point}
 use Rattle.plane.specs.declared.Side.{Side}
 use Rattle.plane.specs.declared.Side.TheVariants.{Right, On, Left}
+use Rattle.plane.specs.Kernels.{side_said}
+use Rattle.plane.specs.Points.{Spot, vertex_of}
 use Rattle.nodes.specs.declared.node.Node.{Node}
 use Rattle.nodes.specs.Nodes.{blank, number_in}
 use Rattle.sheet.specs.declared.answer.Answer.{Answer}
@@ -46,23 +49,30 @@ abbrev pub walk_on : {X Y : Type 0} → Result X ℕ → (X → Result Y ℕ) �
 walk_on (Ok x) rest = rest x
 walk_on (Err k) rest = Err k
 
-module _ (side : ℕ → ℕ → Side) where
-  -- sides are tested in the order ab, bc, ca, up to the first that has the tip on its right
-  abbrev pub test_sides : ℕ → ℕ → ℕ → Test
-  test_sides a b c =
-      cond (is_right (side a b)) (tested 1 false)
-      (cond (is_right (side b c)) (tested 2 false) (cond (is_right (side c a)) (tested 3 false) (tested 3 true)))
+module _ (side : ℕ → ℕ → Side) (vertices : ℕ) where
+  -- sides are tested in the order ab, bc, ca, up to the first that has the tip on its right; a corner is looked at for its first side, and
+  -- there is no test where it is no vertex
+  abbrev pub test_last : (a b c : ℕ) → Option Test
+  test_last a b c =
+      cond (nat_lt c vertices)
+      (cond (is_right (side b c)) (Some (tested 2 false)) (cond (is_right (side c a)) (Some (tested 3 false)) (Some (tested 3 true))))
+      None
 
-  abbrev pub test_node : Node → Test
+  abbrev pub test_sides : (a b c : ℕ) → Option Test
+  test_sides a b c =
+      cond (nat_lt a vertices && nat_lt b vertices) (cond (is_right (side a b)) (Some (tested 1 false)) (test_last a b c)) None
+
+  abbrev pub test_node : Node → Option Test
   test_node n = test_sides n.a n.b n.c
 
--- corners that are vertices
-abbrev pub has_vertices : ℕ → (a b c : ℕ) → Bool
-has_vertices vertices a b c = nat_lt a vertices && (nat_lt b vertices && nat_lt c vertices)
+-- on which side of the line from one vertex to another the tip is
+abbrev pub side_from : List Point → Option Spot → ℕ → ℕ → Side
+side_from points tip u v = side_said tip (vertex_of points u) (vertex_of points v)
 
--- a node that was tested, and those that follow
-abbrev pub tried : ℕ → Test → (tests : ℕ) → (ℕ → Result Walked ℕ) → Result Walked ℕ
-tried k t tests rest = cond t.holds (Ok (walked (Some k) (tests + t.tests))) (rest (tests + t.tests))
+-- a node that was tested, and those that follow; one that cannot be tested is told
+abbrev pub tried : ℕ → Option Test → (tests : ℕ) → (ℕ → Result Walked ℕ) → Result Walked ℕ
+tried k None tests rest = Err k
+tried k (Some t) tests rest = cond t.holds (Ok (walked (Some k) (tests + t.tests))) (rest (tests + t.tests))
 
 -- ---- what a bottom node tells
 
@@ -96,15 +106,12 @@ told_at side nodes loops None tests = Err 0
 told_at side nodes loops (Some k) tests = cond (is_bottom_node loops (node_at nodes k)) (Ok (found (told_node side (node_at nodes k)) tests)) (Err k)
 
 module _ (side : ℕ → ℕ → Side) (vertices : ℕ) (nodes : List Node) where
-  abbrev pub is_whole : Node → Bool
-  is_whole n = has_vertices vertices n.a n.b n.c
-
-  -- the first of some nodes that holds the tip; each is below `bound`, or else `from` is told, and its corners are vertices
+  -- the first of some nodes that holds the tip; each is below `bound`, or else `from` is told
   unfoldable pub first_holding : (from bound : ℕ) → List ℕ → (tests : ℕ) → Result Walked ℕ
   first_holding from bound [] tests = Ok (walked None tests)
   first_holding from bound (k ∷ ks) tests =
       cond (nat_lt k bound)
-      (cond (is_whole (node_at nodes k)) (tried k (test_node side (node_at nodes k)) tests (first_holding from bound ks)) (Err k))
+      (tried k (test_node side vertices (node_at nodes k)) tests (first_holding from bound ks))
       (Err from)
 
   -- a node that nothing below holds the tip of is told

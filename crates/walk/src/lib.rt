@@ -2,10 +2,8 @@
 #![tactic(auto)]
 
 ghost use Rattle.std.specs.Prelude.{◌≡◌, ◌≤◌, length};
-ghost use Rattle.plane.specs.Kernels.{side_said};
-ghost use Rattle.plane.specs.Points.{vertex_of};
 ghost use Rattle.walk.specs.Telling.{WalkTells};
-ghost use Rattle.walk.specs.Walks.{find_said, told_at, walk_from};
+ghost use Rattle.walk.specs.Walks.{find_said, side_from, told_at, walk_from};
 
 mod steps;
 mod telling;
@@ -25,6 +23,8 @@ pub struct Found {
 }
 
 // What a walk tells that came to a bottom node.
+// Apart from the walk: else what it will need is kept in registers that the walk could use.
+#[inline(never)]
 fn tell<K: Kernel, S: ReadStore>(
     tip: &K,
     points: &[Point],
@@ -32,7 +32,7 @@ fn tell<K: Kernel, S: ReadStore>(
     store: &S,
     bottom: Walked,
 ) -> Result<Found, usize>
-    ensures { result ≡ told_at (λ u v. side_said (K.means tip.now) (vertex_of points.now u) (vertex_of points.now v)) (S.nodes store.now) loops bottom.node bottom.tests }
+    ensures { result ≡ told_at (side_from points.now (K.means tip.now)) (S.nodes store.now) loops bottom.node bottom.tests }
 {
     let Some(k) = bottom.node else {
         return Err(0);
@@ -47,21 +47,21 @@ fn tell<K: Kernel, S: ReadStore>(
 }
 
 // From the first of the top nodes that holds the tip down to a bottom node.
+#[inline]
 fn walk<K: Kernel, S: ReadStore>(
     tip: &K,
     points: &[Point],
-    vertices: usize,
     tops: &[u16],
     store: &S,
 ) -> Result<Walked, usize>
     requires { length tops.now ≤ 65535 }
-    ensures { result ≡ walk_from (λ u v. side_said (K.means tip.now) (vertex_of points.now u) (vertex_of points.now v)) vertices (S.nodes store.now) tops.now }
+    ensures { result ≡ walk_from (side_from points.now (K.means tip.now)) (length points.now) (S.nodes store.now) tops.now }
 {
-    let top = first_holding(tip, points, vertices, store, 0, store.count(), tops, 0)?;
+    let top = first_holding(tip, points, store, 0, store.count(), tops, 0)?;
     let Some(k) = top.node else {
         return Err(0);
     };
-    down(tip, points, vertices, store, k, top.tests)
+    down(tip, points, store, k, top.tests)
 }
 
 /// Walks from the top nodes down to a bottom node that holds the tip, and answers what it tells; or the place of a number outside its range,
@@ -70,17 +70,16 @@ fn walk<K: Kernel, S: ReadStore>(
 pub fn find<K: Kernel, S: ReadStore>(
     tip: &K,
     points: &[Point],
-    vertices: usize,
     loops: usize,
     tops: &[u16],
     store: &S,
 ) -> Result<Found, usize>
-    ensures { result ≡ find_said (λ u v. side_said (K.means tip.now) (vertex_of points.now u) (vertex_of points.now v)) vertices (S.nodes store.now) loops tops.now }
+    ensures { result ≡ find_said (side_from points.now (K.means tip.now)) (length points.now) (S.nodes store.now) loops tops.now }
 {
     if tops.len() > 65_535 {
         return Err(65_535);
     }
-    let bottom = walk(tip, points, vertices, tops, store)?;
+    let bottom = walk(tip, points, tops, store)?;
     tell(tip, points, loops, store, bottom)
 }
 

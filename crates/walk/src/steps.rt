@@ -1,11 +1,8 @@
 //! The steps of a walk: which of some nodes holds the tip, and down from there.
 ghost use Rattle.std.specs.Prelude.{◌≡◌, ◌+◌, ◌*◌, ◌<◌, ◌≤◌, ◌-◌, IfOk, IfSome, length, take};
-ghost use Rattle.plane.specs.Points.{vertex_of};
-ghost use Rattle.plane.specs.Kernels.{side_said};
-ghost use Rattle.walk.specs.Walks.{children_of, down_from, first_holding as first_holding_of, has_vertices as has_vertices_of};
+ghost use Rattle.walk.specs.Walks.{children_of, down_from, first_holding as first_holding_of, side_from};
 
-use crate::view::{corners_at, number, test_sides};
-use fans::Corners;
+use crate::view::{number, test_node};
 use nodes::ReadStore;
 use plane::{Kernel, Point};
 
@@ -16,21 +13,12 @@ pub(crate) struct Walked {
     pub(crate) tests: u32,
 }
 
-// Whether the corners of a node are vertices.
-fn has_vertices(vertices: usize, corners: Corners) -> bool
-    ensures { result ≡ has_vertices_of vertices corners.a corners.b corners.c }
-{
-    usize::from(corners.a) < vertices
-        && usize::from(corners.b) < vertices
-        && usize::from(corners.c) < vertices
-}
-
-// The first of some nodes that holds the tip: each is below `bound`, or `from` is told, and its corners are vertices, or it is told.
+// The first of some nodes that holds the tip: each is below `bound`, or `from` is told, and can be tested, or it is told.
 #[tactic(auto, unfolding(crate::specs::Walks::first_holding))]
+#[inline]
 pub(crate) fn first_holding<K: Kernel, S: ReadStore>(
     tip: &K,
     points: &[Point],
-    vertices: usize,
     store: &S,
     from: usize,
     bound: usize,
@@ -40,18 +28,16 @@ pub(crate) fn first_holding<K: Kernel, S: ReadStore>(
     requires { tests + 3 * length numbers.now ≤ 4294967295 }
     ensures tests { IfOk result (λ w. w.tests ≤ tests + 3 * length numbers.now) }
     ensures below { IfOk result (λ w. IfSome w.node (λ c. c < bound)) }
-    ensures said { result ≡ first_holding_of (λ u v. side_said (K.means tip.now) (vertex_of points.now u) (vertex_of points.now v)) vertices (S.nodes store.now) from bound numbers.now tests }
+    ensures said { result ≡ first_holding_of (side_from points.now (K.means tip.now)) (length points.now) (S.nodes store.now) from bound numbers.now tests }
 {
     let mut tests = tests;
     for k in numbers {
         if usize::from(*k) >= bound {
             return Err(from);
         }
-        let corners = corners_at(store, *k);
-        if !has_vertices(vertices, corners) {
+        let Some(tested) = test_node(tip, points, store, *k) else {
             return Err(usize::from(*k));
-        }
-        let tested = test_sides(tip, points, corners);
+        };
         tests += tested.tests;
         if tested.holds {
             return Ok(Walked {
@@ -64,6 +50,7 @@ pub(crate) fn first_holding<K: Kernel, S: ReadStore>(
 }
 
 // The eight places for children of a node; one that is not in use is 0.
+#[inline]
 fn children_at<S: ReadStore>(store: &S, k: u16) -> [u16; 8]
     ensures { result ≡ children_of (S.nodes store.now) k }
 {
@@ -80,10 +67,10 @@ fn children_at<S: ReadStore>(store: &S, k: u16) -> [u16; 8]
 }
 
 // The first of the children of a node, so many, that holds the tip.
+#[inline]
 fn first_child<K: Kernel, S: ReadStore>(
     tip: &K,
     points: &[Point],
-    vertices: usize,
     store: &S,
     node: u16,
     count: u16,
@@ -93,26 +80,26 @@ fn first_child<K: Kernel, S: ReadStore>(
     requires tests { tests + 24 ≤ 4294967295 }
     ensures tests { IfOk result (λ w. w.tests ≤ tests + 24) }
     ensures below { IfOk result (λ w. IfSome w.node (λ c. c < node)) }
-    ensures said { result ≡ first_holding_of (λ u v. side_said (K.means tip.now) (vertex_of points.now u) (vertex_of points.now v)) vertices (S.nodes store.now) node node (take count (children_of (S.nodes store.now) node)) tests }
+    ensures said { result ≡ first_holding_of (side_from points.now (K.means tip.now)) (length points.now) (S.nodes store.now) node node (take count (children_of (S.nodes store.now) node)) tests }
 {
     let children = children_at(store, node);
     let bound = usize::from(node);
     let numbers = &children[..usize::from(count)];
-    first_holding(tip, points, vertices, store, bound, bound, numbers, tests)
+    first_holding(tip, points, store, bound, bound, numbers, tests)
 }
 
 // From a node down to a bottom node.
 #[tactic(auto, unfolding(crate::specs::Walks::down_from))]
+#[inline]
 pub(crate) fn down<K: Kernel, S: ReadStore>(
     tip: &K,
     points: &[Point],
-    vertices: usize,
     store: &S,
     k: u16,
     tests: u32,
 ) -> Result<Walked, usize>
     requires { tests + 24 * k ≤ 4294967295 - 24 }
-    ensures { result ≡ down_from (λ u v. side_said (K.means tip.now) (vertex_of points.now u) (vertex_of points.now v)) vertices (S.nodes store.now) (length (S.nodes store.now)) k tests }
+    ensures { result ≡ down_from (side_from points.now (K.means tip.now)) (length points.now) (S.nodes store.now) (length (S.nodes store.now)) k tests }
 {
     let mut at = Walked {
         node: Some(k),
@@ -127,7 +114,7 @@ pub(crate) fn down<K: Kernel, S: ReadStore>(
         if count > 8 {
             return Err(usize::from(node));
         }
-        at = first_child(tip, points, vertices, store, node, count, at.tests)?;
+        at = first_child(tip, points, store, node, count, at.tests)?;
         let Some(child) = at.node else {
             return Err(usize::from(node));
         };

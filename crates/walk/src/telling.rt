@@ -1,8 +1,6 @@
 //! What a bottom node tells of a tip that it holds.
 ghost use Rattle.std.specs.Prelude.{◌≡◌};
-ghost use Rattle.plane.specs.Kernels.{side_said};
-ghost use Rattle.plane.specs.Points.{vertex_of};
-ghost use Rattle.walk.specs.Walks.{is_bottom_node, edge_named as edge_named_of, edge_or_face as edge_or_face_of, is_on as is_on_of, node_at, told_by, told_node};
+ghost use Rattle.walk.specs.Walks.{is_bottom_node, edge_named as edge_named_of, edge_or_face as edge_or_face_of, is_on as is_on_of, node_at, side_from, told_by, told_node};
 
 use crate::view::{corners_at, number, side};
 use fans::Corners;
@@ -23,7 +21,7 @@ fn edge_named(u: u16, v: u16) -> Answer
 
 // Whether the tip is on the line from one vertex to another.
 fn is_on<K: Kernel>(tip: &K, points: &[Point], u: u16, v: u16) -> bool
-    ensures { result ≡ is_on_of (side_said (K.means tip.now) (vertex_of points.now u) (vertex_of points.now v)) }
+    ensures { result ≡ is_on_of (side_from points.now (K.means tip.now) u v) }
 {
     side(tip, points, u, v) == Side::On
 }
@@ -57,7 +55,7 @@ fn told_corners(corners: Corners, sides: u16, ring: u16, ab: bool, bc: bool, ca:
 
 // What a bottom node tells.
 pub(crate) fn told<K: Kernel, S: ReadStore>(tip: &K, points: &[Point], store: &S, k: u16) -> Answer
-    ensures { result ≡ told_node (λ u v. side_said (K.means tip.now) (vertex_of points.now u) (vertex_of points.now v)) (node_at (S.nodes store.now) k) }
+    ensures { result ≡ told_node (side_from points.now (K.means tip.now)) (node_at (S.nodes store.now) k) }
 {
     let corners = corners_at(store, k);
     let ab = is_on(tip, points, corners.a, corners.b);

@@ -1,10 +1,10 @@
 //! What a walk sees of the nodes: a tip, where the vertices are, and the store.
-ghost use Rattle.std.specs.Prelude.{◌≡◌, ◌<◌, slice_index_or};
-ghost use Rattle.nodes.specs.Nodes.{blank, number_in};
-ghost use Rattle.plane.specs.Points.{vertex_of};
+ghost use Rattle.std.specs.Prelude.{◌≡◌, ◌<◌, ◌≤◌, cond, length, nat_lt, slice_index_or, IfSome, Some as There, None as Nowhere};
 ghost use Rattle.plane.specs.Kernels.{side_said};
+ghost use Rattle.plane.specs.Points.{vertex_of};
+ghost use Rattle.nodes.specs.Nodes.{blank, number_in};
 ghost use Rattle.fans.specs.Around.{corners_of};
-ghost use Rattle.walk.specs.Walks.{is_right as is_right_of, test_sides as test_sides_of};
+ghost use Rattle.walk.specs.Walks.{is_right as is_right_of, node_at, side_from, test_node as test_node_of};
 
 use fans::Corners;
 use nodes::ReadStore;
@@ -17,8 +17,11 @@ pub(crate) struct Test {
     pub(crate) holds: bool,
 }
 
+// The functions on the way down are hinted to be inlined: they are called for each node, and it takes a third of the instructions away.
+
 // Number `i` of node `k`, and 0 where there is no such node.
 #[tactic(auto, using(crate::proofs::Reading::number_past))]
+#[inline]
 pub(crate) fn number<S: ReadStore>(store: &S, k: u16, i: usize) -> u16
     requires { i < 14 }
     ensures { result ≡ number_in (S.nodes store.now) k i }
@@ -37,39 +40,57 @@ pub(crate) fn corners_at<S: ReadStore>(store: &S, k: u16) -> Corners
     }
 }
 
+// Where a vertex is, if it is one.
+#[inline]
+fn known(points: &[Point], vertex: u16) -> Option<Point>
+    ensures { result ≡ cond (nat_lt vertex (length points.now)) (There (vertex_of points.now vertex)) Nowhere }
+{
+    points.get(usize::from(vertex)).copied()
+}
+
 // On which side of the line from one vertex to another the tip is.
 pub(crate) fn side<K: Kernel>(tip: &K, points: &[Point], u: u16, v: u16) -> Side
-    ensures { result ≡ side_said (K.means tip.now) (vertex_of points.now u) (vertex_of points.now v) }
+    ensures { result ≡ side_from points.now (K.means tip.now) u v }
 {
     tip.side(place(points, u), place(points, v))
 }
 
 // Whether the tip is on the right of the line.
-fn is_right<K: Kernel>(tip: &K, points: &[Point], u: u16, v: u16) -> bool
-    ensures { result ≡ is_right_of (side_said (K.means tip.now) (vertex_of points.now u) (vertex_of points.now v)) }
+#[inline]
+fn is_right<K: Kernel>(tip: &K, from: Point, to: Point) -> bool
+    ensures { result ≡ is_right_of (side_said (K.means tip.now) from to) }
 {
-    side(tip, points, u, v) == Side::Right
+    tip.side(from, to) == Side::Right
 }
 
-// Tests the sides of a triangle in order, up to the first that has the tip on its right.
-pub(crate) fn test_sides<K: Kernel>(tip: &K, points: &[Point], corners: Corners) -> Test
-    ensures { result ≡ test_sides_of (λ u v. side_said (K.means tip.now) (vertex_of points.now u) (vertex_of points.now v)) corners.a corners.b corners.c }
+// Tests the sides of node `k` in order, up to the first that has the tip on its right; none where a corner that is looked at is no vertex.
+#[inline]
+pub(crate) fn test_node<K: Kernel, S: ReadStore>(
+    tip: &K,
+    points: &[Point],
+    store: &S,
+    k: u16,
+) -> Option<Test>
+    ensures few { IfSome result (λ t. t.tests ≤ 3) }
+    ensures said { result ≡ test_node_of (side_from points.now (K.means tip.now)) (length points.now) (node_at (S.nodes store.now) k) }
 {
-    let Corners { a, b, c } = corners;
-    if is_right(tip, points, a, b) {
-        return Test {
+    let a = known(points, number(store, k, 0))?;
+    let b = known(points, number(store, k, 1))?;
+    if is_right(tip, a, b) {
+        return Some(Test {
             tests: 1,
             holds: false,
-        };
+        });
     }
-    if is_right(tip, points, b, c) {
-        return Test {
+    let c = known(points, number(store, k, 2))?;
+    if is_right(tip, b, c) {
+        return Some(Test {
             tests: 2,
             holds: false,
-        };
+        });
     }
-    Test {
+    Some(Test {
         tests: 3,
-        holds: !is_right(tip, points, c, a),
-    }
+        holds: !is_right(tip, c, a),
+    })
 }

@@ -1,12 +1,10 @@
 use Rattle.std.proofs.Common.{◌≡◌, ◌+◌, ◌*◌, ◌-◌, ◌≤◌, length, Some}
-use Rattle.plane.specs.Points.{vertex_of}
-use Rattle.plane.specs.Kernels.{side_said}
-use Rattle.walk.specs.Walks.{down_from, walked}
+use Rattle.walk.specs.Walks.{down_from, side_from, walked}
 use Rattle.walk.proofs.steps.down.Given as goal
 
 -- what the steps up to here leave to those that follow
 abbrev pub invariant-loop-step : goal.invariant-loop-step
 invariant-loop-step g l =
-    (down_from (λ u v. side_said (g.K.Kernel.means l.tip) (vertex_of l.points u) (vertex_of l.points v)) l.vertices (g.S.ReadStore.nodes l.store) (length (g.S.ReadStore.nodes l.store)) l.k l.tests
-    ≡ down_from (λ u v. side_said (g.K.Kernel.means l.tip) (vertex_of l.points u) (vertex_of l.points v)) l.vertices (g.S.ReadStore.nodes l.store) (length (g.S.ReadStore.nodes l.store) - l._step) l.node l.at.tests)
+    (down_from (side_from l.points (g.K.Kernel.means l.tip)) (length l.points) (g.S.ReadStore.nodes l.store) (length (g.S.ReadStore.nodes l.store)) l.k l.tests
+    ≡ down_from (side_from l.points (g.K.Kernel.means l.tip)) (length l.points) (g.S.ReadStore.nodes l.store) (length (g.S.ReadStore.nodes l.store) - l._step) l.node l.at.tests)
     × (l.at ≡ walked (Some l.node) l.at.tests) × (l.at.tests + 24 * l.node ≤ 4294967295 - 24)

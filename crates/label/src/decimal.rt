@@ -1,0 +1,31 @@
+//! Quotients of whole numbers, written as decimals.
+use std::fmt;
+
+/// A quotient with two decimals, the last one rounded.
+#[derive(Clone, Copy)]
+pub(crate) struct Hundredths(pub(crate) u64, pub(crate) u64);
+
+impl fmt::Display for Hundredths {
+    fn fmt<W: fmt::Write>(&self, f: &mut fmt::Formatter<W>) -> fmt::Result {
+        let parts = rounded(self.0, self.1, 100);
+        write!(f, "{}.{:02}", parts / 100, parts % 100)
+    }
+}
+
+/// A quotient with three decimals, the last one rounded.
+#[derive(Clone, Copy)]
+pub(crate) struct Thousandths(pub(crate) u64, pub(crate) u64);
+
+impl fmt::Display for Thousandths {
+    fn fmt<W: fmt::Write>(&self, f: &mut fmt::Formatter<W>) -> fmt::Result {
+        let parts = rounded(self.0, self.1, 1000);
+        write!(f, "{}.{:03}", parts / 1000, parts % 1000)
+    }
+}
+
+// How many of so many parts of one a quotient is; by 0 is as by 1.
+// No sheet and no count of tests comes near the numbers that would not fit, so these may end at the largest.
+fn rounded(top: u64, bottom: u64, of_one: u64) -> u64 {
+    let bottom = bottom.max(1);
+    top.saturating_mul(of_one).saturating_add(bottom / 2) / bottom
+}

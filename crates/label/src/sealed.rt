@@ -1,0 +1,93 @@
+//! A sheet in which tips are answered.
+use crate::wordings::Wordings;
+use desk::Desk;
+use nodes::ReadStore;
+use plane::Kernel;
+use refusal::Refusal;
+use sheet::{Answer, Size};
+use std::io::Write;
+use std::{fmt, io};
+use walk::Found;
+
+/// A Sealed sheet: its tables, its nodes and its wordings.
+#[derive(Drop)]
+pub(crate) struct Sealed<S> {
+    pub(crate) desk: Desk,
+    pub(crate) store: S,
+    pub(crate) wordings: Wordings,
+}
+
+impl<S: ReadStore> Sealed<S> {
+    /// Names the cell that holds a tip.
+    pub(crate) fn place<K: Kernel>(&mut self, tip: &K) -> Result<Found, Refusal> {
+        self.desk.place(tip, &self.store)
+    }
+
+    /// The numeral of a face, where its loop has one; the other cells have none.
+    pub(crate) fn numeral(&self, answer: Answer) -> Option<u16> {
+        match answer {
+            Answer::Face(number) => self
+                .desk
+                .loops
+                .as_slice()
+                .get(usize::from(number))?
+                .some_numeral(),
+            Answer::Vertex(_) => None,
+            Answer::OpenEdge(_, _) => None,
+        }
+    }
+
+    /// The wording of a numeral, where there is one.
+    pub(crate) fn wording(&self, numeral: Option<u16>) -> Option<&str> {
+        self.wordings.get(numeral?)
+    }
+
+    /// Writes the size and the counts of the sheet.
+    pub(crate) fn write_size<W: Write>(&self, out: &mut W) -> io::Result<()> {
+        let Size {
+            width,
+            height,
+            inner,
+            loops,
+            corners,
+        } = self.desk.board.size();
+        writeln!(
+            out,
+            "sheet {width} x {height}: {inner} inner vertices, {loops} loops, {corners} corners"
+        )
+    }
+
+    /// Writes how the sheet is layered.
+    pub(crate) fn write_layers<W: Write>(&self, out: &mut W) -> io::Result<()> {
+        let nodes = self.store.count();
+        let rounds = self.desk.board.rounds();
+        writeln!(out, "layered: {nodes} nodes in {rounds} rounds")
+    }
+}
+
+/// A numeral, or a dash for none.
+#[derive(Clone, Copy)]
+pub(crate) struct Numeral(pub(crate) Option<u16>);
+
+impl fmt::Display for Numeral {
+    fn fmt<W: fmt::Write>(&self, f: &mut fmt::Formatter<W>) -> fmt::Result {
+        match self.0 {
+            None => f.pad("-"),
+            Some(numeral) => numeral.fmt(f),
+        }
+    }
+}
+
+/// A cell in words.
+#[derive(Clone, Copy)]
+pub(crate) struct Cell(pub(crate) Answer);
+
+impl fmt::Display for Cell {
+    fn fmt<W: fmt::Write>(&self, f: &mut fmt::Formatter<W>) -> fmt::Result {
+        match self.0 {
+            Answer::Vertex(v) => write!(f, "vertex {v}"),
+            Answer::OpenEdge(u, v) => write!(f, "edge {u}-{v}"),
+            Answer::Face(l) => write!(f, "face of loop {l}"),
+        }
+    }
+}

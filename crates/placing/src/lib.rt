@@ -1,0 +1,42 @@
+//! The answer to a tip of a sealed sheet, or why there is none.
+#![tactic(auto)]
+
+ghost use Rattle.std.specs.Prelude.{◌≡◌};
+ghost use Rattle.placing.specs.Placings.{PlaceTells, place_said};
+
+use nodes::ReadStore;
+use plane::{Kernel, Point};
+use refusal::{Cause, Layer, Refusal};
+use sheet::Size;
+use walk::{Found, find};
+
+/// Names the cell that holds the tip at this position of a list, with the count of sides tested: by a walk over the nodes, from the top
+/// ones down. `points` are those of the sheet, and no more.
+#[tactic(auto, unfolding(crate::specs::Placings::place_said))]
+pub fn place_tip<K: Kernel, S: ReadStore>(
+    size: Size,
+    tip: &K,
+    position: usize,
+    points: &[Point],
+    tops: &[u16],
+    store: &S,
+) -> Result<Found, Refusal>
+    ensures { result ≡ place_said size (K.means tip.now) position points.now (S.nodes store.now) tops.now }
+{
+    if !tip.fit() {
+        return Err(Refusal::new(Cause::UnfitTip, Layer::Place, position));
+    }
+    if !tip.on_sheet(size.width, size.height) {
+        return Err(Refusal::new(Cause::OffSheet, Layer::Place, position));
+    }
+    let loops = usize::from(size.loops);
+    match find(tip, points, loops, tops, store) {
+        Ok(found) => Ok(found),
+        Err(place) => Err(Refusal::new(Cause::OutOfRange, Layer::Place, place)),
+    }
+}
+
+/// Over nodes that cuts and rounds made of a checked sheet, the answer to every tip on the sheet names the one cell that holds it.
+pub fn place_tells_stands()
+    ensures { PlaceTells }
+{}
