@@ -3,7 +3,8 @@
 The order in which each turn tries its refusals is that of docs/REFUSALS.md
 ("Order"). Every turn gives a Refusal, or None when it is granted; a granted
 round gives the list of the vertices it took out (those that no live node has
-as a corner any more), a granted place the answer and the count of tests.
+as a corner any more), a granted place the answer and the count of tests, a
+granted list what place gives for each of its tips.
 """
 
 import layers
@@ -176,18 +177,27 @@ class Board:
         self.stage = "Sealed"
         return None
 
-    def place(self, kernel, tip):
+    def place(self, kernel, tip, position=0):
         if self.too_short(["points", "live"]):
             return Refusal(12, PLACE_LAYER, 0)
         if self.stage != "Sealed":
             return Refusal(28, PLACE_LAYER, 0)
         if not fit(kernel, tip):
-            return Refusal(25, PLACE_LAYER, 0)
+            return Refusal(25, PLACE_LAYER, position)
         if not on_sheet(tip, self.width, self.height):
-            return Refusal(26, PLACE_LAYER, 0)
+            return Refusal(26, PLACE_LAYER, position)
         found = walked(self.held()[0], self.nodes, self.live_nodes(), self.loops, tip)
         self.compare(tip, found)
         return Refusal(27, PLACE_LAYER, found) if isinstance(found, int) else found
+
+    def list(self, kernel, tips, entries):
+        """What place gives for each tip, in order; refused where a table of
+        answers of so many entries, or another table, is too short."""
+        if self.too_short(["points", "live"]) or entries < len(tips):
+            return Refusal(12, PLACE_LAYER, 0)
+        if self.stage != "Sealed":
+            return Refusal(28, PLACE_LAYER, 0)
+        return [self.place(kernel, tip, i) for i, tip in enumerate(tips)]
 
     def compare(self, tip, found):
         """One cell alone holds the tip, and the walk told that one."""

@@ -14,6 +14,10 @@ the commands from `load` to `blocks`, the program `tips` the others.
     place X Y              a turn on the tip (X, Y): ok KIND P Q tests T, the
                            answer (KIND as for `wording`) and its test count
     placeq X Y Z           the same of the tip (X/Z, Y/Z)
+    list T X Y X Y ..      a turn on the tips (X, Y), lent T answers: ok ENTRIES,
+                           those of the tips, apart by "; ": KIND P Q tests T,
+                           or refused NUMBER
+    listq T X Y Z X Y Z .. the same of the tips (X/Z, Y/Z)
     wipe                   a turn
     stage                  ok STAGE: Draft, Checked, Layered or Sealed
     tables                 ok WIDTH HEIGHT INNER LOOPS CORNERS LIVE
@@ -50,6 +54,8 @@ number of 16 bits, prints `no such entry`. A C that is missing or no number of
 a store of 8,194 nodes.
 A word of a tip that is no number of its type, or is missing, prints `no such
 number`. X and Y of rational tips have 64 bits, Z has 32, all others have 16.
+The T of a list is looked at first, then how many words follow it: if they are
+no whole number of tips, it prints `no such tips`.
 A refusal prints `refused NUMBER LAYER PLACE`. D is a digest of a list of
 numbers: h is 0 at first, and h = (h * 31 + v) mod 2^32 for each number v.
 """
@@ -60,9 +66,9 @@ import tips
 from board import LEAST, Board
 from sheetfile import Refusal, wording
 
-COMMANDS = ("load", "check", "cut", "round", "seal", "place", "placeq", "wipe",
-            "stage", "tables", "cards", "live", "wording", "alter", "short",
-            "capacity", "blocks", "whole", "rational", "make")
+COMMANDS = ("load", "check", "cut", "round", "seal", "place", "placeq", "list",
+            "listq", "wipe", "stage", "tables", "cards", "live", "wording", "alter",
+            "short", "capacity", "blocks", "whole", "rational", "make")
 
 # How many numbers an entry has that a caller can alter.
 ENTRY = {"points": 2, "edges": 2, "loops": 3, "live": 1, "nodes": 14}
@@ -77,6 +83,14 @@ def told(refusal):
 
 def spaced(numbers):
     return " ".join(map(str, numbers))
+
+
+def entry(found):
+    """What place gave for one tip of a list: without layer and place."""
+    if isinstance(found, Refusal):
+        return f"refused {found.number}"
+    answer, tests = found
+    return f"{spaced(answer)} tests {tests}"
 
 
 def outcome(given):
@@ -128,10 +142,29 @@ class Player:
         if tip is None:
             return "no such number"
         found = self.board.place(kernel, tip)
+        return told(found) if isinstance(found, Refusal) else "ok " + entry(found)
+
+    def list(self, *words):
+        return self.listed("whole", words)
+
+    def listq(self, *words):
+        return self.listed("rational", words)
+
+    def listed(self, kernel, words):
+        entries = tips.numbers(words, [tips.WORD])
+        if entries is None:
+            return "no such number"
+        rest, size = words[1:], len(tips.KERNELS[kernel])
+        if len(rest) % size != 0:
+            return "no such tips"
+        asked = [tips.tip_of(kernel, rest[i:i + size])
+                 for i in range(0, len(rest), size)]
+        if None in asked:
+            return "no such number"
+        found = self.board.list(kernel, asked, entries[0])
         if isinstance(found, Refusal):
             return told(found)
-        answer, tests = found
-        return f"ok {spaced(answer)} tests {tests}"
+        return f"ok {'; '.join(map(entry, found))}".rstrip()
 
     def wipe(self):
         self.board.wipe()

@@ -1,2 +1,6 @@
+pub mod Listing
 pub mod Passing
+pub mod Rounding
 pub mod Standing
+pub mod Known
+pub mod Lawful

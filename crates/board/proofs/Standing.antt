@@ -1,5 +1,5 @@
 -- What stands on a board is a checked sheet, and its nodes are those that cuts and rounds make of it.
-use Rattle.std.proofs.Common.{◌≡◌, ℕ, ◌+◌, ◌*◌, ◌<◌, ◌≤◌, Bool, true, false, cond, List, [], ◌∷◌, Some, None, Option, Ok, Err, Result, length, min, take, drop, replicate, nat_le, refl, sym, ap, ◌∙◌, subst, inl, inr, arith}
+use Rattle.std.proofs.Common.{◌≡◌, ℕ, zero, suc, ◌+◌, ◌*◌, ◌<◌, ◌≤◌, ◌==◌, Bool, true, false, cond, List, [], ◌∷◌, ◌++◌, Some, None, Option, Ok, Err, Result, length, min, take, drop, replicate, nat_le, refl, sym, ap, ◌∙◌, subst, inl, inr, arith}
 use Rattle.std.specs.List.{range_with_len}
 use Rattle.std.proofs.Math.Seq.{take-append_seam}
 use Rattle.std.proofs.lemmas.List.FromFn.{length-range_with_len}
@@ -8,7 +8,8 @@ use Rattle.std.proofs.lemmas.Bool.Decides.{nat_tests}
 use Rattle.plane.specs.declared.Edge.{Edge}
 use Rattle.plane.specs.declared.Point.{Point}
 use Rattle.plane.specs.Edges.{In}
-use Rattle.plane.specs.Points.{Spot}
+use Rattle.fans.specs.Around.{left_from}
+use Rattle.plane.specs.Points.{Spot, place_of}
 use Rattle.refusal.specs.declared.Refusal.{Refusal}
 use Rattle.nodes.specs.declared.node.Node.{Node}
 use Rattle.sheet.specs.declared.tables.Loop.{Loop}
@@ -19,10 +20,14 @@ use Rattle.checking.specs.Held.{Holds}
 use Rattle.checking.proofs.Unaltered.{one_held}
 use Rattle.rules.specs.Rules.{first_broken}
 use Rattle.bottom.specs.Cuts.{cut_live}
-use Rattle.rounds.specs.Rounds.{RoundLive, Rounded, most_nodes, round_next, round_said, wrong_nodes, wrong_number}
+use Rattle.rounds.specs.Choices.{look_all, rounded_live, rounded_nodes}
+use Rattle.rounds.specs.Rounds.{RoundLive, Rounded, most_nodes, round_said, wrong_nodes}
 use Rattle.rounds.proofs.Right.{right_nodes}
-use Rattle.sealing.specs.Seals.{seal_next, seal_said}
+use Rattle.sealing.specs.Seals.{left_said, seal_next, seal_said}
+use Rattle.hierarchy.specs.Falls.{Fell}
+use Rattle.hierarchy.specs.Falls.Fell.{begin, round as falls}
 use Rattle.hierarchy.specs.Theorems.{Ascends, Made}
+use Rattle.hierarchy.proofs.TakesOut.{round_takes_out}
 use Rattle.hierarchy.proofs.Theorems.{nodes_turn_left}
 use Rattle.hierarchy.proofs.Turns.{turns_make_layers}
 use Rattle.placing.specs.Placings.{Answered, place_said}
@@ -31,15 +36,16 @@ use Rattle.walk.specs.declared.Found.{Found}
 use Rattle.board.specs.declared.stage.Board.{Board}
 use Rattle.board.specs.declared.stage.Stage.{Stage}
 use Rattle.board.specs.declared.stage.Stage.TheVariants.{Draft, Checked, Layered, Sealed}
+use Rattle.board.proofs.Rounding.{Finds, left_most, round_finds}
 use Rattle.board.specs.Standing.{Stands, TipTold}
 use Rattle.board.specs.Standing.Stands.{checked, cut, round, seal}
-use Rattle.board.specs.Turns.{checks, cut_board, cuts, is_checked, is_layered, is_sealed, live_of, places, points_in, round_board, rounds, seal_board, seals}
+use Rattle.board.specs.Turns.{checks, cut_board, cuts, is_checked, is_layered, is_sealed, live_of, places, points_in, round_board, round_room, rounds, seal_board, seals}
 
 -- ---- a turn that was granted
 
-granted : {X : Type 0} (b : Bool) (said : Result X Refusal) (e : Refusal) (x : X) → cond b said (Err e) ≡ Ok x → (b ≡ true) × (said ≡ Ok x)
-granted true said e x h = (refl, h)
-granted false said e x h = cc
+pub passed_by : {X : Type 0} (b : Bool) (said : Result X Refusal) (e : Refusal) (x : X) → cond b said (Err e) ≡ Ok x → (b ≡ true) × (said ≡ Ok x)
+passed_by true said e x h = (refl, h)
+passed_by false said e x h = cc
 
 passed : (o : Option Refusal) → passes o ≡ Ok tt → o ≡ None
 passed None h = refl
@@ -49,9 +55,13 @@ right_seal : (o : Option ℕ) (said : Result (Unit {0}) Refusal) → seal_next o
 right_seal None said h = (refl, h)
 right_seal (Some i) said h = cc
 
-right_round : (o : Option ℕ) (said : Result Rounded Refusal) (r : Rounded) → round_next o said ≡ Ok r → o ≡ None
-right_round None said r h = refl
-right_round (Some i) said r h = cc
+two_live : (left live : ℕ) → left_said left live ≡ Ok tt → live ≡ 2
+two_live left live h = two (left == 0) (live == 2) _ _ h refl
+  where
+    two : (p q : Bool) (e f : Refusal) → ◌≡◌ {A = Result (Unit {0}) Refusal} (cond p (cond q (Ok tt) (Err e)) (Err f)) (Ok tt) → (live == 2) ≡ q → live ≡ 2
+    two true true e f h t = grind (arith, nat_tests)
+    two true false e f h t = cc
+    two false q e f h t = cc
 
 -- ---- so many numbers are live
 
@@ -73,19 +83,22 @@ at_most least n (k ∷ ks) l up below =
 
 -- ---- what stands on a board
 
--- nodes that cuts and rounds made of the sheet; their live numbers are in the front of the table, and counted where sixteen bits count them
-record Built (s : Sheet) (b : Board) (live : List ℕ) (nodes : List Node) : Type 0 where
-  alive : List ℕ
-  made : List ℕ
-  rounds : ℕ
-  right : Made s nodes alive made rounds
-  counted : length alive ≤ 65535 → b.live ≡ length alive
-  front : take (length alive) live ≡ alive
+-- nodes that cuts and rounds made of the sheet; their live numbers are in the front of the table, and counted where sixteen bits count them;
+-- and each round took out its share
+pub record Built (s : Sheet) (b : Board) (live : List ℕ) (nodes : List Node) : Type 0 where
+  pub alive : List ℕ
+  pub made : List ℕ
+  pub rounds : ℕ
+  pub right : Made s nodes alive made rounds
+  pub fell : Fell (length s.inner) rounds (left_from nodes alive (length s.inner) 4)
+  pub counted : length alive ≤ 65535 → b.live ≡ length alive
+  pub front : take (length alive) live ≡ alive
 
-record Ready (s : Sheet) (b : Board) (live : List ℕ) (nodes : List Node) : Type 0 where
-  built : Built s b live nodes
-  few : length built.alive ≤ 65535
-  same : live_of b live ≡ built.alive
+pub record Ready (s : Sheet) (b : Board) (live : List ℕ) (nodes : List Node) : Type 0 where
+  pub built : Built s b live nodes
+  pub few : length built.alive ≤ 65535
+  pub same : live_of b live ≡ built.alive
+  pub two : length built.alive ≡ 2
 
 -- by its stage
 abbrev Come : Stage → Sheet → Board → List ℕ → List Node → Type 0
@@ -102,18 +115,19 @@ inner_same : (z : Size) (ps : List Point) (es : List Edge) (ls : List Loop) (s :
 inner_same z ps es ls s h = ap (λ (z : Size). z.inner) (sym h.size)
 
 -- the front of the points table has the sheet's points
-points_same : (b : Board) (ps : List Point) (es : List Edge) (ls : List Loop) (s : Sheet) → Holds b.size ps es ls s → points_in b ps ≡ points_of s
+pub points_same : (b : Board) (ps : List Point) (es : List Edge) (ls : List Loop) (s : Sheet) → Holds b.size ps es ls s → points_in b ps ≡ points_of s
 points_same b ps es ls s h =
     let n : b.size.inner + 4 ≡ length (points_of s) = let e = inner_same b.size ps es ls s h in omega (arith, e) in
     (λ i. take (n i) (sym h.points i)) ∙ take-append_seam (points_of s) (drop (length (points_of s)) ps)
 
 -- where the store has no more nodes than a sheet has, all that are live are counted
-all_counted : (s : Sheet) (b : Board) (live : List ℕ) (nodes : List Node) → length nodes ≤ 8194 → Built s b live nodes → Ready s b live nodes
+all_counted : (s : Sheet) (b : Board) (live : List ℕ) (nodes : List Node) → length nodes ≤ 8194 → (h : Built s b live nodes)
+    → (length h.alive ≤ 65535) × (live_of b live ≡ h.alive)
 all_counted s b live nodes few h =
     let t = nodes_turn_left s nodes h.alive h.made h.rounds h.right in
     let l = at_most 0 (length nodes) h.alive (omega arith) t.0 t.1 in
     let n : length h.alive ≤ 65535 = omega (arith, few, l) in
-    record { built = h; few = n; same = ap (λ n. take n live) (h.counted n) ∙ h.front }
+    (n, ap (λ n. take n live) (h.counted n) ∙ h.front)
 
 -- the stage that a granted turn is of
 at_checked : (g : Stage) (s : Sheet) (b : Board) (live : List ℕ) (nodes : List Node) → is_checked g ≡ true → Come g s b live nodes → first_broken s ≡ None
@@ -135,68 +149,83 @@ at_sealed Layered s b live nodes h c = cc
 at_sealed Sealed s b live nodes h c = c
 
 module _ (s : Sheet) (b : Board) (ps : List Point) (es : List Edge) (ls : List Loop) (live : List ℕ) (nodes : List Node) where
-  after_check : (strokes : ℕ) → Holds b.size ps es ls s → checks b ps es ls strokes ≡ Ok tt → first_broken s ≡ None
+  pub after_check : (strokes : ℕ) → Holds b.size ps es ls s → checks b ps es ls strokes ≡ Ok tt → first_broken s ≡ None
   unfolding check_said
   after_check strokes holds h =
       let o = one_held b.size ps es ls s holds in
-      let said = (granted _ _ _ tt (granted _ _ _ tt h).1).1 in
+      let said = (passed_by _ _ _ tt (passed_by _ _ _ tt h).1).1 in
       passed (first_broken s) ((λ i. judged (sym o.0 i) (sym o.1 i)) ∙ said)
 
-  after_cut : (room : ℕ) (ns : List Node) → Sound s b ps es ls live nodes → cuts b ps es ls (length live) room ≡ Ok ns
-      → Built s (cut_board (Ok ns) b) (cut_live (Ok ns) live) ns
-  after_cut room ns h said =
-      let g = granted _ _ _ ns (granted _ _ _ ns said).1 in
-      let n = length-range_with_len 0 (length ns) in
-      record {
-        alive = range_with_len 0 (length ns);
-        made = replicate (length ns) 0;
-        rounds = 0;
-        right = record {
-          legal = h.holds.legal;
-          checked = at_checked b.stage s b live nodes g.0 h.come;
-          layers = turns_make_layers.0 b.size ps es ls room s ns h.holds g.1;
-        };
-        counted = λ l. sym n;
-        front = take-append_seam (range_with_len 0 (length ns)) (drop (length (range_with_len 0 (length ns))) live);
-      }
+  pub after_cut : (room : ℕ) (ns : List Node) → Holds b.size ps es ls s → first_broken s ≡ None → cuts b ps es ls (length live) room ≡ Ok ns
+      → (x : Built s (cut_board (Ok ns) b) (cut_live (Ok ns) live) ns) × (x.rounds ≡ 0)
+  after_cut room ns holds none said =
+      let g = passed_by _ _ _ ns (passed_by _ _ _ ns said).1 in
+      let n = length-range_with_len 0 (length ns) in (
+        record {
+          alive = range_with_len 0 (length ns);
+          made = replicate (length ns) 0;
+          rounds = 0;
+          right = record {
+            legal = holds.legal;
+            checked = none;
+            layers = turns_make_layers.0 b.size ps es ls room s ns holds g.1;
+          };
+          fell = begin _ (left_most ns (range_with_len 0 (length ns)) (length s.inner) 4);
+          counted = λ l. sym n;
+          front = take-append_seam (range_with_len 0 (length ns)) (drop (length (range_with_len 0 (length ns))) live);
+        },
+        refl,
+      )
 
-  after_round : (new : List ℕ) (room : ℕ) (r : Rounded) → Sound s b ps es ls live nodes → rounds b ps live nodes room ≡ Ok r → RoundLive (Ok r) live new
-      → Built s (round_board (Ok r) b) new r.nodes
-  unfolding round_said
-  after_round new room r h said front =
-      let g = granted _ _ _ r (granted _ _ _ r said).1 in
-      let none = right_round (wrong_number b.size (points_in b ps) nodes (live_of b live)) _ r g.1 in
-      let built = at_layered b.stage s b live nodes g.0 h.come in
-      let ready = all_counted s b live nodes (right_nodes b.size (points_in b ps) nodes (live_of b live) none) built in
-      let inner = inner_same b.size ps es ls s h.holds in
-      let points = points_same b ps es ls s h.holds in
-      let same : round_said b.size (points_of s) nodes ready.built.alive b.rounds room (length live) ≡ Ok r = (λ i. round_said b.size (sym points i) nodes (sym ready.same i) b.rounds room (length live)) ∙ g.1 in
-      let next = turns_make_layers.1 b.size s nodes ready.built.alive ready.built.made ready.built.rounds b.rounds room (length live) r inner ready.built.right.layers same in
-      record {
-        alive = r.live;
-        made = next.0;
-        rounds = ready.built.rounds + 1;
-        right = record { legal = h.holds.legal; checked = ready.built.right.checked; layers = next.1 };
-        counted = λ l. least (length r.live) l;
-        front = front;
-      }
+  pub after_round : (new : List ℕ) (room : ℕ) (r : Rounded) → Holds b.size ps es ls s → (built : Built s b live nodes) → rounds b ps live nodes room ≡ Ok r → RoundLive (Ok r) live new
+      → (x : Built s (round_board (Ok r) b) new r.nodes) × (x.rounds ≡ built.rounds + 1)
+  after_round new room r holds built said front =
+      let g = passed_by (is_layered b.stage) _ _ r (passed_by (round_room (length ps) (length live)) _ _ r said).1 in
+      let none = (round_finds b.size (points_in b ps) nodes (live_of b live) b.rounds room (length live) r g.1).0 in
+      let all = all_counted s b live nodes (right_nodes b.size (points_in b ps) nodes (live_of b live) none) built in
+      let inner = inner_same b.size ps es ls s holds in
+      let points = points_same b ps es ls s holds in
+      let same : round_said b.size (points_of s) nodes built.alive b.rounds room (length live) ≡ Ok r = (λ i. round_said b.size (sym points i) nodes (sym all.1 i) b.rounds room (length live)) ∙ g.1 in
+      let f = (round_finds b.size (points_of s) nodes built.alive b.rounds room (length live) r same).1 in
+      let looked : look_all (place_of (points_of s)) nodes built.alive (length s.inner) ≡ Ok f.0 = sym (ap (look_all (place_of (points_of s)) nodes built.alive) inner) ∙ f.1 in
+      let takes = round_takes_out s nodes built.alive built.made built.rounds built.right f.0 looked in
+      let made : ◌≡◌ {A = Rounded} (record { nodes = rounded_nodes (place_of (points_of s)) nodes built.alive (length s.inner) f.0.marks; live = rounded_live (place_of (points_of s)) nodes built.alive f.0 }) r =
+      sym (λ i. record { nodes = rounded_nodes (place_of (points_of s)) nodes built.alive (inner i) f.0.marks; live = rounded_live (place_of (points_of s)) nodes built.alive f.0 }) ∙ f.4 in
+      let next = turns_make_layers.1 b.size s nodes built.alive built.made built.rounds b.rounds room (length live) r inner built.right.layers same in
+      let some : 0 < left_from nodes built.alive (length s.inner) 4 = let l = f.2 in let e = takes.0 in omega (arith, l, e) in
+      let enough : left_from nodes built.alive (length s.inner) 4 ≤ 18 * f.0.chosen = let l = f.3 in let e = takes.0 in omega (arith, l, e) in
+      let less : left_from r.nodes r.live (length s.inner) 4 + f.0.chosen ≤ left_from nodes built.alive (length s.inner) 4 =
+      subst (λ (r : Rounded). left_from r.nodes r.live (length s.inner) 4 + f.0.chosen ≤ left_from nodes built.alive (length s.inner) 4) made takes.1 in (
+        record {
+          alive = r.live;
+          made = next.0;
+          rounds = built.rounds + 1;
+          right = record { legal = holds.legal; checked = built.right.checked; layers = next.1 };
+          fell = falls built.rounds _ f.0.chosen _ built.fell some enough less;
+          counted = λ l. least (length r.live) l;
+          front = front;
+        },
+        refl,
+      )
     where
       least : (n : ℕ) → n ≤ 65535 → min 65535 n ≡ n
       least n l = grind (arith)
 
-  after_seal : Sound s b ps es ls live nodes → seals b live nodes ≡ Ok tt → Ready s (seal_board (Ok tt) b) live nodes
+  pub after_seal : Holds b.size ps es ls s → (built : Built s b live nodes) → seals b live nodes ≡ Ok tt
+      → (x : Ready s (seal_board (Ok tt) b) live nodes) × (x.built.rounds ≡ built.rounds)
   unfolding seal_said
-  after_seal h said =
-      let g = granted _ _ _ tt (granted _ _ _ tt said).1 in
-      let n = granted _ _ _ tt g.1 in
+  after_seal holds built said =
+      let g = passed_by (is_layered b.stage) _ _ tt (passed_by (nat_le 2050 (length live)) _ _ tt said).1 in
+      let n = passed_by (nat_le b.size.inner 1024) _ _ tt g.1 in
       let none = (right_seal (wrong_nodes b.size.inner nodes (live_of b live)) _ n.1).0 in
       let few : length nodes ≤ 8 * b.size.inner + 2 = few_nodes b.size.inner nodes (live_of b live) none in
-      let legal : length s.inner ≤ 1024 = h.holds.legal.few in
-      let inner : b.size.inner ≡ length s.inner = inner_same b.size ps es ls s h.holds in
+      let legal : length s.inner ≤ 1024 = holds.legal.few in
+      let inner : b.size.inner ≡ length s.inner = inner_same b.size ps es ls s holds in
       let all : length nodes ≤ 8194 = omega (arith, few, legal, inner) in
-      let built = at_layered b.stage s b live nodes g.0 h.come in
-      let again : Built s (seal_board (Ok tt) b) live nodes = record { alive = built.alive; made = built.made; rounds = built.rounds; right = built.right; counted = built.counted; front = built.front } in
-      all_counted s (seal_board (Ok tt) b) live nodes all again
+      let again : Built s (seal_board (Ok tt) b) live nodes = record { alive = built.alive; made = built.made; rounds = built.rounds; right = built.right; fell = built.fell; counted = built.counted; front = built.front } in
+      let whole = all_counted s (seal_board (Ok tt) b) live nodes all again in
+      let two = two_live (left_from nodes (live_of b live) b.size.inner 4) (length (live_of b live)) (right_seal (wrong_nodes b.size.inner nodes (live_of b live)) _ n.1).1 in
+      (record { built = again; few = whole.0; same = whole.1; two = sym (ap length whole.1) ∙ two }, refl)
 
 sound : (s : Sheet) (b : Board) (ps : List Point) (es : List Edge) (ls : List Loop) (live : List ℕ) (nodes : List Node) → Stands s b ps es ls live nodes
     → Sound s b ps es ls live nodes
@@ -204,13 +233,16 @@ sound s b' ps' es' ls' live' nodes' (checked b ps es ls live nodes strokes holds
     record { holds = holds; come = after_check s b ps es ls live nodes strokes holds h }
 sound s b' ps' es' ls' live' nodes' (cut b ps es ls live nodes room ns st h) =
     let p = sound s b ps es ls live nodes st in
-    record { holds = p.holds; come = after_cut s b ps es ls live nodes room ns p h }
+    let none = at_checked b.stage s b live nodes (passed_by _ _ _ ns (passed_by _ _ _ ns h).1).0 p.come in
+    record { holds = p.holds; come = (after_cut s b ps es ls live nodes room ns p.holds none h).0 }
 sound s b' ps' es' ls' live' nodes' (round b ps es ls live new nodes room r st h front) =
     let p = sound s b ps es ls live nodes st in
-    record { holds = p.holds; come = after_round s b ps es ls live nodes new room r p h front }
+    let built = at_layered b.stage s b live nodes (passed_by (is_layered b.stage) _ _ r (passed_by (round_room (length ps) (length live)) _ _ r h).1).0 p.come in
+    record { holds = p.holds; come = (after_round s b ps es ls live nodes new room r p.holds built h front).0 }
 sound s b' ps' es' ls' live' nodes' (seal b ps es ls live nodes st h) =
     let p = sound s b ps es ls live nodes st in
-    record { holds = p.holds; come = after_seal s b ps es ls live nodes p h }
+    let built = at_layered b.stage s b live nodes (passed_by _ _ _ tt (passed_by _ _ _ tt h).1).0 p.come in
+    record { holds = p.holds; come = (after_seal s b ps es ls live nodes p.holds built h).0 }
 
 -- ---- the answer
 

@@ -10,9 +10,10 @@ use Rattle.sheet.specs.declared.tables.Loop.{Loop}
 use Rattle.sheet.specs.declared.tables.Size.{Size}
 use Rattle.sheet.specs.Load.{roomy, sheet_of}
 use Rattle.sheet.specs.Sheets.{Sheet, size_of, sizes}
+use Rattle.lent.specs.Kept.{over}
 use Rattle.bottom.specs.Cuts.{cut_room, cut_said}
 use Rattle.nodes.specs.declared.node.Node.{Node}
-use Rattle.placing.specs.Placings.{place_said}
+use Rattle.placing.specs.Placings.{list_said, place_said}
 use Rattle.plane.specs.Points.{Spot}
 use Rattle.walk.specs.declared.Found.{Found}
 use Rattle.rounds.specs.Rounds.{Rounded, round_said}
@@ -151,3 +152,15 @@ places b points live nodes tip =
     cond (round_room (length points) (length live))
     (cond (is_sealed b.stage) (place_said b.size tip 0 (points_in b points) nodes (live_of b live)) (Err (refused NotThisStage Place 0)))
     (Err (refused TableTooShort Place 0))
+
+-- the entries that a list writes: an answer or a refusal for each tip, of which there are no more than the table has entries
+abbrev pub lists : Board → List Point → List ℕ → List Node → List (Option Spot) → (room : ℕ) → Result (List (Result Found Refusal)) Refusal
+lists b points live nodes tips room =
+    cond (cond (nat_le (length tips) room) (round_room (length points) (length live)) false)
+    (cond (is_sealed b.stage) (Ok (list_said b.size 0 (points_in b points) nodes (live_of b live) tips)) (Err (refused NotThisStage Place 0)))
+    (Err (refused TableTooShort Place 0))
+
+-- they stand in the front of the table; a list changes nothing else
+abbrev pub list_answers : Result (List (Result Found Refusal)) Refusal → List (Result Found Refusal) → List (Result Found Refusal)
+list_answers (Ok es) answers = over es answers
+list_answers (Err e) answers = answers

@@ -1,18 +1,19 @@
-ghost use Rattle.std.specs.Prelude.{◌≡◌, [], length, min, Ok as Good};
+ghost use Rattle.std.specs.Prelude.{◌≡◌, [], ◌∷◌, length, map, min, Ok as Good};
 ghost use Rattle.sheet.specs.Load.{upon};
 ghost use Rattle.reader.specs.Reading.{and_then};
 ghost use Rattle.sheet.specs.Sheets.{edges_of, loops_of, points_of};
 ghost use Rattle.bottom.specs.Cuts.{cut_live, cut_nodes};
 ghost use Rattle.rounds.specs.Rounds.{RoundLive, round_nodes};
-ghost use Rattle.board.specs.Turns.{SheetPasses, bare, check_board, checks, cut_board, cuts, round_board, round_room, rounds, seal_board, seals, is_loaded, load_board, load_room, loads, places};
+ghost use Rattle.board.specs.Turns.{SheetPasses, bare, check_board, checks, cut_board, cuts, round_board, round_room, rounds, seal_board, seals, is_loaded, is_sealed, list_answers, lists, load_board, load_room, loads, places};
 ghost use Rattle.board.specs.Standing.{TipTold};
+ghost use Rattle.board.specs.Law.{ListRight, RightNext};
 
 use crate::stage::{Board, Stage};
 use bottom::cut_tables;
 use checking::{check_tables, front};
 use lent::LentList;
 use nodes::{ReadStore, WriteStore};
-use placing::place_tip;
+use placing::{place_all, place_tip};
 use plane::{Edge, Kernel, Point};
 use refusal::{Cause, Layer, Refusal};
 use rules::Stroke;
@@ -200,8 +201,15 @@ impl Board {
         Ok(())
     }
 
+    // Whether the sheet is ready for tips.
+    fn is_sealed(&self) -> bool
+        ensures { result ≡ is_sealed self.now.stage }
+    {
+        self.stage == Stage::Sealed
+    }
+
     /// Names the vertex, open edge or open face of a Sealed sheet that holds the tip, and counts the sides that were tested for it.
-    #[tactic(auto, using(crate::proofs::Standing::tip_told))]
+    #[tactic(auto, using(crate::proofs::Standing::tip_told, crate::proofs::Lawful::next_place))]
     pub fn place<K: Kernel, S: ReadStore>(
         &mut self,
         tip: &K,
@@ -212,16 +220,61 @@ impl Board {
         ensures said { result ≡ places self.old points.now live.now (S.nodes store.now) (K.means tip.now) }
         ensures board { self.new ≡ self.old }
         ensures tells { TipTold self.old points.now live.now (S.nodes store.now) (K.means tip.now) result }
+        ensures right { RightNext self.old points.now live.now (S.nodes store.now) (K.means tip.now ∷ []) (result ∷ []) }
     {
         if !have_points(points, live) {
             return Err(Refusal::new(Cause::TableTooShort, Layer::Place, 0));
         }
-        let Stage::Sealed = self.stage else {
+        if !self.is_sealed() {
             return Err(Refusal::new(Cause::NotThisStage, Layer::Place, 0));
-        };
+        }
         let points = front(points, usize::from(self.size.inner) + 4);
         let tops = front(live, usize::from(self.live));
         place_tip(self.size, tip, 0, points, tops, store)
+    }
+
+    // Answers tips one after another.
+    #[tactic(auto, using(crate::proofs::Listing::whole_list))]
+    fn answer<K: Kernel, S: ReadStore>(
+        &self,
+        tips: &[K],
+        points: &[Point],
+        live: &[u16],
+        store: &S,
+        answers: &mut [Result<Found, Refusal>],
+    ) -> Result<(), Refusal>
+        ensures said { result ≡ and_then (lists self.now points.now live.now (S.nodes store.now) (map K.means tips.now) (length answers.old)) (λ _. Good tt) }
+        ensures answers { answers.new ≡ list_answers (lists self.now points.now live.now (S.nodes store.now) (map K.means tips.now) (length answers.old)) answers.old }
+    {
+        if !(tips.len() <= answers.len() && have_points(points, live)) {
+            return Err(Refusal::new(Cause::TableTooShort, Layer::Place, 0));
+        }
+        if !self.is_sealed() {
+            return Err(Refusal::new(Cause::NotThisStage, Layer::Place, 0));
+        }
+        let points = front(points, usize::from(self.size.inner) + 4);
+        let tops = front(live, usize::from(self.live));
+        place_all(self.size, tips, points, tops, store, answers);
+        Ok(())
+    }
+
+    /// Answers tips of a Sealed sheet one after another into a table that has an entry for each; the entry of a refused tip has its refusal, and
+    /// the entries behind stay.
+    #[tactic(auto, using(crate::proofs::Lawful::list_right))]
+    pub fn list<K: Kernel, S: ReadStore>(
+        &mut self,
+        tips: &[K],
+        points: &[Point],
+        live: &[u16],
+        store: &S,
+        answers: &mut [Result<Found, Refusal>],
+    ) -> Result<(), Refusal>
+        ensures said { result ≡ and_then (lists self.old points.now live.now (S.nodes store.now) (map K.means tips.now) (length answers.old)) (λ _. Good tt) }
+        ensures board { self.new ≡ self.old }
+        ensures answers { answers.new ≡ list_answers (lists self.old points.now live.now (S.nodes store.now) (map K.means tips.now) (length answers.old)) answers.old }
+        ensures right { ListRight self.old points.now live.now (S.nodes store.now) (map K.means tips.now) answers.new result }
+    {
+        self.answer(tips, points, live, store, answers)
     }
 
     /// Makes an empty Draft and empties the store; never refused.

@@ -1,13 +1,14 @@
 //! Sheets whose stage is their type: a turn takes one and gives the next, so that what is not of a sheet's stage does not compile. None of
 //! them can be let go but by `end` or `wipe`. Each turn is the board's own.
-ghost use Rattle.std.specs.Prelude.{◌≡◌, [], length, Ok as Good};
+ghost use Rattle.std.specs.Prelude.{◌≡◌, [], ◌∷◌, length, map, Ok as Good};
 ghost use Rattle.sheet.specs.Load.{upon};
 ghost use Rattle.sheet.specs.Sheets.{edges_of, loops_of, points_of};
 ghost use Rattle.reader.specs.Reading.{and_then};
 ghost use Rattle.bottom.specs.Cuts.{cut_live, cut_nodes};
 ghost use Rattle.rounds.specs.Rounds.{RoundLive, round_nodes};
-ghost use Rattle.board.specs.Turns.{bare, check_board, checks, cut_board, cuts, load_board, loads, places, round_board, rounds, seal_board, seals};
+ghost use Rattle.board.specs.Turns.{bare, check_board, checks, cut_board, cuts, list_answers, lists, load_board, loads, places, round_board, rounds, seal_board, seals};
 ghost use Rattle.board.specs.Standing.{TipTold};
+ghost use Rattle.board.specs.Law.{ListRight, RightNext};
 ghost use Rattle.board.specs.Sheets.{board_of, checked_board, draft_board, layered_board, said_of, sealed_board};
 
 use crate::stage::{Board, Stage};
@@ -237,9 +238,42 @@ impl Sealed {
     ) -> Result<Found, Refusal>
         ensures said { result ≡ places (sealed_board self.now) points.now live.now (S.nodes store.now) (K.means tip.now) }
         ensures tells { TipTold (sealed_board self.now) points.now live.now (S.nodes store.now) (K.means tip.now) result }
+        ensures right { RightNext (sealed_board self.now) points.now live.now (S.nodes store.now) (K.means tip.now ∷ []) (result ∷ []) }
     {
         let mut board = Board::at(Stage::Sealed, self.size, self.live, self.rounds);
         board.place(tip, points, live, store)
+    }
+
+    /// Answers tips one after another into a table, as the board's turn does, and gives the sheet back.
+    pub fn list<K: Kernel, S: ReadStore>(
+        self,
+        tips: &[K],
+        points: &[Point],
+        live: &[u16],
+        store: &S,
+        answers: &mut [Result<Found, Refusal>],
+    ) -> Result<Sealed, Refused<Sealed>>
+        ensures said { said_of result ≡ and_then (lists (sealed_board self) points.now live.now (S.nodes store.now) (map K.means tips.now) (length answers.old)) (λ _. Good tt) }
+        ensures board { board_of sealed_board sealed_board result ≡ sealed_board self }
+        ensures answers { answers.new ≡ list_answers (lists (sealed_board self) points.now live.now (S.nodes store.now) (map K.means tips.now) (length answers.old)) answers.old }
+        ensures right { ListRight (sealed_board self) points.now live.now (S.nodes store.now) (map K.means tips.now) answers.new (said_of result) }
+    {
+        let Sealed {
+            size,
+            live: count,
+            rounds,
+        } = self;
+        let mut board = Board::at(Stage::Sealed, size, count, rounds);
+        let said = board.list(tips, points, live, store, answers);
+        let sheet = Sealed {
+            size,
+            live: count,
+            rounds,
+        };
+        match said {
+            Ok(()) => Ok(sheet),
+            Err(refusal) => Err(Refused { sheet, refusal }),
+        }
     }
 
     /// Gives the sheet up, and empties the store.

@@ -1,10 +1,12 @@
 -- A desk at the start, and what a load takes of it.
-use Rattle.std.specs.Prelude.{◌≡◌, ℕ, List, length, Result, vec_len}
+use Rattle.std.specs.Prelude.{◌≡◌, ℕ, List, length, Option, Result, vec_len}
 use Rattle.nodes.specs.declared.node.Node.{Node}
 use Rattle.refusal.specs.declared.Refusal.{Refusal}
+use Rattle.plane.specs.Points.{Spot}
 use Rattle.sheet.specs.Sheets.{Sheet}
+use Rattle.walk.specs.declared.Found.{Found}
 use Rattle.rounds.specs.Rounds.{Rounded}
-use Rattle.board.specs.Turns.{bare, checks, cuts, loads, rounds}
+use Rattle.board.specs.Turns.{bare, checks, cuts, lists, loads, rounds}
 use Rattle.desk.specs.declared.Desk.{Desk}
 use Rattle.desk.specs.declared.Lengths.{Lengths}
 
@@ -28,6 +30,10 @@ desk_cuts d room = cuts d.board d.points.items d.edges.items d.loops.items (leng
 -- what a round over the desk's tables makes
 abbrev pub desk_rounds : Desk → List Node → ℕ → Result Rounded Refusal
 desk_rounds d nodes room = rounds d.board d.points.items d.live.items nodes room
+
+-- what a list over the desk's tables writes
+abbrev pub desk_lists : Desk → List Node → List (Option Spot) → (room : ℕ) → Result (List (Result Found Refusal)) Refusal
+desk_lists d nodes tips room = lists d.board d.points.items d.live.items nodes tips room
 
 -- what a load takes over the desk's tables
 abbrev pub desk_loads : Desk → List ℕ → Result Sheet Refusal

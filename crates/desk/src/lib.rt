@@ -1,15 +1,16 @@
 //! A board with tables of its own, for a program that has a heap.
 #![tactic(auto)]
 
-ghost use Rattle.std.specs.Prelude.{◌≡◌, IfOk, Ok as Good, vec_len};
+ghost use Rattle.std.specs.Prelude.{◌≡◌, [], ◌∷◌, IfOk, Ok as Good, length, map, vec_len};
 ghost use Rattle.reader.specs.Reading.{and_then};
 ghost use Rattle.sheet.specs.Load.{upon};
 ghost use Rattle.sheet.specs.Sheets.{edges_of, loops_of, points_of};
 ghost use Rattle.bottom.specs.Cuts.{cut_live, cut_nodes};
 ghost use Rattle.rounds.specs.Rounds.{RoundLive, round_nodes};
 ghost use Rattle.board.specs.Standing.{TipTold};
-ghost use Rattle.board.specs.Turns.{check_board, cut_board, load_board, places, round_board, seal_board, seals};
-ghost use Rattle.desk.specs.Desks.{IsFresh, desk_checks, desk_cuts, desk_loads, desk_rounds};
+ghost use Rattle.board.specs.Law.{ListRight, RightNext};
+ghost use Rattle.board.specs.Turns.{check_board, cut_board, list_answers, load_board, places, round_board, seal_board, seals};
+ghost use Rattle.desk.specs.Desks.{IsFresh, desk_checks, desk_cuts, desk_lists, desk_loads, desk_rounds};
 
 use board::{Board, LEAST_LIVE};
 use checking::LEAST_STROKES;
@@ -74,6 +75,7 @@ impl Desk {
         ensures edges { self.new.edges.items ≡ upon (desk_loads self.old file.now) edges_of self.old.edges.items }
         ensures loops { self.new.loops.items ≡ upon (desk_loads self.old file.now) loops_of self.old.loops.items }
         ensures live { self.new.live.items ≡ self.old.live.items }
+        ensures strokes { self.new.strokes.items ≡ self.old.strokes.items }
     {
         let points = self.points.as_mut_slice();
         let edges = self.edges.as_mut_slice();
@@ -125,6 +127,7 @@ impl Desk {
         ensures nodes { S.ReadStore.nodes store.new ≡ round_nodes (desk_rounds self.old (S.ReadStore.nodes store.old) (S.WriteStore.room store.old)) (S.ReadStore.nodes store.old) }
         ensures room { S.WriteStore.room store.new ≡ S.WriteStore.room store.old }
         ensures live { RoundLive (desk_rounds self.old (S.ReadStore.nodes store.old) (S.WriteStore.room store.old)) self.old.live.items self.new.live.items }
+        ensures table { length self.new.live.items ≡ length self.old.live.items }
         ensures points { self.new.points.items ≡ self.old.points.items }
         ensures edges { self.new.edges.items ≡ self.old.edges.items }
         ensures loops { self.new.loops.items ≡ self.old.loops.items }
@@ -153,6 +156,7 @@ impl Desk {
     pub fn place<K: Kernel, S: ReadStore>(&mut self, tip: &K, store: &S) -> Result<Found, Refusal>
         ensures said { result ≡ places self.old.board self.old.points.items self.old.live.items (S.nodes store.now) (K.means tip.now) }
         ensures tells { TipTold self.old.board self.old.points.items self.old.live.items (S.nodes store.now) (K.means tip.now) result }
+        ensures right { RightNext self.old.board self.old.points.items self.old.live.items (S.nodes store.now) (K.means tip.now ∷ []) (result ∷ []) }
         ensures board { self.new.board ≡ self.old.board }
         ensures live { self.new.live.items ≡ self.old.live.items }
         ensures points { self.new.points.items ≡ self.old.points.items }
@@ -163,6 +167,28 @@ impl Desk {
         let points = self.points.as_slice();
         let live = self.live.as_slice();
         self.board.place(tip, points, live, store)
+    }
+
+    /// Answers tips of a Sealed sheet one after another into a table, as the board does.
+    pub fn list<K: Kernel, S: ReadStore>(
+        &mut self,
+        tips: &[K],
+        store: &S,
+        answers: &mut [Result<Found, Refusal>],
+    ) -> Result<(), Refusal>
+        ensures said { result ≡ and_then (desk_lists self.old (S.nodes store.now) (map K.means tips.now) (length answers.old)) (λ _. Good tt) }
+        ensures board { self.new.board ≡ self.old.board }
+        ensures answers { answers.new ≡ list_answers (desk_lists self.old (S.nodes store.now) (map K.means tips.now) (length answers.old)) answers.old }
+        ensures right { ListRight self.old.board self.old.points.items self.old.live.items (S.nodes store.now) (map K.means tips.now) answers.new result }
+        ensures live { self.new.live.items ≡ self.old.live.items }
+        ensures points { self.new.points.items ≡ self.old.points.items }
+        ensures edges { self.new.edges.items ≡ self.old.edges.items }
+        ensures loops { self.new.loops.items ≡ self.old.loops.items }
+        ensures strokes { self.new.strokes.items ≡ self.old.strokes.items }
+    {
+        let points = self.points.as_slice();
+        let live = self.live.as_slice();
+        self.board.list(tips, points, live, store, answers)
     }
 }
 

@@ -17,4 +17,6 @@ pub fn cell_examples_stand()
 #[cfg(test)]
 mod rule_tests;
 #[cfg(test)]
+mod run_tests;
+#[cfg(test)]
 mod tests;

@@ -1,5 +1,5 @@
 -- The live nodes around a vertex, and its degree.
-use Rattle.std.specs.Prelude.{◌≡◌, ℕ, ◌+◌, ◌<◌, ◌≤◌, Bool, cond, ◌==◌, ◌||◌, min, List, [], ◌∷◌, length, map, nat_lt, slice_index_or, Ok, Err, Result, Some, None, Option, is_some}
+use Rattle.std.specs.Prelude.{◌≡◌, ℕ, zero, suc, ◌+◌, ◌<◌, ◌≤◌, Bool, cond, ◌==◌, ◌||◌, min, List, [], ◌∷◌, length, map, nat_lt, slice_index_or, Ok, Err, Result, Some, None, Option, is_some}
 use Rattle.std.specs.List.{All, filter, filter_map}
 use Rattle.std.specs.Option.{option_and_then}
 use Rattle.nodes.specs.declared.node.Node.{Node}
@@ -46,6 +46,11 @@ live_around nodes live v = filter (λ k. is_some (turned_at nodes v k)) live
 -- how many they are
 abbrev pub degree : List Node → List ℕ → ℕ → ℕ
 degree nodes live v = length (around nodes live v)
+
+-- of so many vertices from v on, how many are left: have a live node
+abbrev pub left_from : List Node → List ℕ → (n v : ℕ) → ℕ
+left_from nodes live zero v = 0
+left_from nodes live (suc n) v = cond (nat_lt 0 (degree nodes live v)) 1 0 + left_from nodes live n (v + 1)
 
 -- a node has corner v
 abbrev pub is_corner : ℕ → Corners → Bool

@@ -26,6 +26,15 @@ module _ {X : Type 0} where
   in_filter test x [] i = absurd i
   in_filter test x (y ∷ l) i = kept_in x y (test y) test l refl (in_filter test x l) i
 
+  pub filter_in : (test : X → Bool) (x : X) (l : List X) → In x l → test x ≡ true → In x (filter test l)
+  filter_in test x [] i t = absurd i
+  filter_in test x (y ∷ l) (inl e) t = subst (λ b. In x (cond b (y ∷ filter test l) (filter test l))) (sym (ap test (sym e) ∙ t)) (inl e)
+  filter_in test x (y ∷ l) (inr i) t = go (test y) (filter_in test x l i t)
+    where
+      go : (b : Bool) → In x (filter test l) → In x (cond b (y ∷ filter test l) (filter test l))
+      go true i = inr i
+      go false i = i
+
   pub in_permuted : (x : X) (l m : List X) → IsPermutation l m → In x l → In x m
   in_permuted x l m p i =
       let r = place_in x x l i in

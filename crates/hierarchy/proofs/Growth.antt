@@ -16,7 +16,7 @@ use Rattle.nodes.specs.declared.node.Node.{Node}
 use Rattle.nodes.specs.Nodes.{blank}
 use Rattle.fans.specs.declared.around.Turned.{Turned}
 use Rattle.fans.specs.Around.{nodes_of}
-use Rattle.rounds.specs.Choices.{Found, closing, closings, goes, hole_node, look_all, rounded_live, rounded_nodes}
+use Rattle.rounds.specs.Choices.{Found, closing, closings, goes, hole_node, is_marked, look_all, rounded_live, rounded_nodes}
 use Rattle.hierarchy.specs.Layers.{child, node_at, shape, triangle_of}
 use Rattle.hierarchy.specs.Theorems.{Ascends}
 use Rattle.hierarchy.proofs.Elements.{in_filter, in_range, place_in, sum_range, sum_same, sum_split, where_true}
@@ -57,7 +57,7 @@ pub record Parent (at : ℕ → GridPoint) (nodes : List Node) (made : List ℕ)
   pub covers : (p : Spot) → pos 0 <ℤ p.Z → closed_holds at (shape n) p ≡ true
       → (i : ℕ) × (i < n.count) × (closed_holds at (triangle_of nodes (child n i)) p ≡ true)
 
-node_before : (nodes more : List Node) (k : ℕ) → k < length nodes → node_at (nodes ++ more) k ≡ node_at nodes k
+pub node_before : (nodes more : List Node) (k : ℕ) → k < length nodes → node_at (nodes ++ more) k ≡ node_at nodes k
 node_before nodes more k l = get_or_append_left nodes more blank k l
 
 still_parent : (at : ℕ → GridPoint) (nodes more : List Node) (made later : List ℕ) (k : ℕ) (n : Node) → length made ≡ length nodes → k < length nodes
@@ -108,16 +108,17 @@ module _ (at : ℕ → GridPoint) (vertices : ℕ) (ns nodes : List Node) (live 
   grows = length-append nodes fresh
 
   -- a new node is of a chosen vertex
-  record New (x : Node) : Type 0 where
-    v : ℕ
-    choice : Choice at nodes live f.marks v
-    made_there : In x (closing at nodes live v)
+  pub record New (x : Node) : Type 0 where
+    pub v : ℕ
+    pub chosen : is_marked f.marks v ≡ true
+    pub made_there : In x (closing at nodes live v)
+    pub choice : Choice at nodes live f.marks v
 
-  new : (x : Node) → In x fresh → New x
-  new x i = let r = closings_from at nodes live f.marks found.choice x n 4 i in record { v = r.0; choice = found.choice r.0 r.1; made_there = r.2 }
+  pub new : (x : Node) → In x fresh → New x
+  new x i = let r = closings_from at nodes live f.marks found.choice x n 4 i in record { v = r.0; chosen = r.1; made_there = r.2; choice = found.choice r.0 r.1 }
 
   -- node k is an old one, or a new one
-  new_at : (k : ℕ) → length nodes ≤ k → k < length (nodes ++ fresh) → In (node_at (nodes ++ fresh) k) fresh
+  pub new_at : (k : ℕ) → length nodes ≤ k → k < length (nodes ++ fresh) → In (node_at (nodes ++ fresh) k) fresh
   new_at k l m =
       let g = grows in
       subst (λ x. In x fresh) (sym (get_or-append_right nodes fresh (length nodes) k blank refl l)) (in_get_or blank fresh (k - length nodes) (omega arith))
@@ -240,7 +241,7 @@ module _ (at : ℕ → GridPoint) (vertices : ℕ) (ns nodes : List Node) (live 
     | inr i ↦
         let w = new (node_at now k) (new_at k i l) in
         let c = noted_corner at nodes live f.marks w.v w.choice u (closing_corner at nodes live f.marks w.v w.choice (node_at now k) w.made_there u j) in
-        h.named c.0 c.1 u c.2
+        h.named c.0 (h.alive c.0 c.1) u c.3
   ]
 
   now_past : (k : ℕ) → k < length now → get_or (made ++ dates) k 0 ≤ r + 1

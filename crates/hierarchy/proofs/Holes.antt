@@ -1,11 +1,11 @@
 -- The fan of a chosen vertex and the nodes that close its hole: they cover the same, and have the same sums.
-use Rattle.std.proofs.Common.{◌≡◌, ℕ, ◌<◌, Bool, true, false, cond, List, [], ◌∷◌, length, ℤ, pos, ◌<ℤ◌, Some, is_some, sym, ap, ◌∙◌, subst, inl, inr}
-use Rattle.std.specs.List.{filter}
+use Rattle.std.proofs.Common.{◌≡◌, ℕ, ◌<◌, Bool, true, false, List, length, ℤ, pos, ◌<ℤ◌, Some, is_some, sym, ap, ◌∙◌, subst, inl, inr}
 use Rattle.std.specs.List.Sorted.{IsPermutation}
 use Rattle.std.proofs.lemmas.List.Sorted.{IsPermutation-sym}
 use Rattle.plane.specs.declared.Edge.{Edge}
 use Rattle.plane.specs.Edges.{In, ring_edges, sum}
 use Rattle.plane.specs.Points.{GridPoint, Spot}
+use Rattle.plane.proofs.Signs.{lin}
 use Rattle.tiling.specs.Lemmas.{Odd}
 use Rattle.tiling.specs.Triangles.{AllLeftward, Leftward, Triangle, around, closed_holds, corners, fan, triangle}
 use Rattle.tiling.proofs.Cuts.{cut_sum}
@@ -13,6 +13,7 @@ use Rattle.tiling.proofs.Fans.{fan_sum}
 use Rattle.tiling.proofs.Holding.{closed_true, true_closed}
 use Rattle.tiling.proofs.Lists.{in_map}
 use Rattle.tiling.proofs.Rings.{ring_ends}
+use Rattle.tiling.proofs.Segments.{area_back}
 use Rattle.tiling.proofs.Theorems.{fan_covers}
 use Rattle.tiling.proofs.Turning.{Same}
 use Rattle.ears.specs.Cutting.{CutInto}
@@ -27,17 +28,8 @@ use Rattle.fans.proofs.Whole.{whole_fan_has_all, whole_fan_has_live}
 use Rattle.rounds.specs.Choices.{closing, hole_node, is_marked}
 use Rattle.hierarchy.specs.Layers.{shape, triangle_of}
 use Rattle.hierarchy.proofs.Corners.{turned_below, turned_corner, turned_next, turned_same}
-use Rattle.hierarchy.proofs.Elements.{all_at, in_filter, in_permuted, map_in, sum_filter, sum_map, sum_permuted, sum_same, where_true}
+use Rattle.hierarchy.proofs.Elements.{all_at, filter_in, in_filter, in_permuted, map_in, sum_filter, sum_map, sum_permuted, sum_same, where_true}
 use Rattle.hierarchy.proofs.Looks.{Choice, closes}
-
-filter_in : (test : ℕ → Bool) (k : ℕ) (l : List ℕ) → In k l → test k ≡ true → In k (filter test l)
-filter_in test k [] i t = absurd i
-filter_in test k (j ∷ l) (inl e) t = subst (λ b. In k (cond b (j ∷ filter test l) (filter test l))) (sym (ap test (sym e) ∙ t)) (inl e)
-filter_in test k (j ∷ l) (inr i) t = go (test j) (filter_in test k l i t)
-  where
-    go : (b : Bool) → In k (filter test l) → In k (cond b (j ∷ filter test l) (filter test l))
-    go true i = inr i
-    go false i = i
 
 pub corner_within : (u : ℕ) (t : Triangle) (cs : List ℕ) → In t.a cs × In t.b cs × In t.c cs → In u (corners t) → In u cs
 corner_within u t cs h (inl e) = subst (λ w. In w cs) (sym e) h.0
@@ -90,12 +82,13 @@ module _ (at : ℕ → GridPoint) (nodes : List Node) (live : List ℕ) (marks :
       → is_marked marks u ≡ false
   none_before k i h u j l other = c.clear u (noted k i h u j other) l
 
-  -- a noted corner is one of a node
-  pub noted_corner : (u : ℕ) → In u (ring_of c.es) → (k : ℕ) × (k < length nodes) × In u (corners (triangle_of nodes k))
+  -- a noted corner is one of a live node with corner v
+  pub noted_corner : (u : ℕ) → In u (ring_of c.es) → (k : ℕ) × In k live × (is_some (turned_at nodes v k) ≡ true) × In u (corners (triangle_of nodes k))
   noted_corner u i =
       let r = map_in (λ (t : Turned). t.next) u c.es i in
-      let e = entry_turns r.0 r.1 in
-      (r.0.node, turned_below nodes v r.0.node r.0 e, subst (λ u. In u (corners (triangle_of nodes r.0.node))) r.2 (turned_next nodes v r.0.node r.0 e))
+      let k = r.0.node in
+      let l = fan_live k (in_map (λ (t : Turned). t.node) r.0 c.es r.1) in
+      (k, l.0, l.1, subst (λ u. In u (corners (triangle_of nodes k))) r.2 (turned_next nodes v k r.0 (entry_turns r.0 r.1)))
 
   -- ---- the nodes that close the hole
 
@@ -116,12 +109,21 @@ module _ (at : ℕ → GridPoint) (nodes : List Node) (live : List ℕ) (marks :
       corner_within u r.0 (ring_of c.es) (cut_into.within r.0 r.1) (subst (λ n. In u (corners (shape n))) (sym r.2) j)
 
   module _ (good : (k : ℕ) → k < length nodes → Leftward at (triangle_of nodes k)) where
+    entry_leftward : (t : Turned) → In t c.es → Leftward at (triangle v t.next t.last)
+    entry_leftward t i = subst (λ (u : ℤ). pos 0 <ℤ u) (entry_same t i).area_is (good t.node (turned_below nodes v t.node t (entry_turns t i)))
+
     fan_leftward : AllLeftward at (fan v (ring_of c.es))
     fan_leftward x i =
         let r = map_in (λ (t : Turned). triangle v t.next t.last) x c.es (subst (In x) (sym closed_ring) i) in
-        let t = r.0 in
-        let k = good t.node (turned_below nodes v t.node t (entry_turns t r.1)) in
-        subst (Leftward at) r.2 (subst (λ (u : ℤ). pos 0 <ℤ u) (entry_same t r.1).area_is k)
+        subst (Leftward at) r.2 (entry_leftward r.0 r.1)
+
+    -- v itself is no noted corner, since its triangle would have no area
+    pub not_noted : In v (ring_of c.es) → ⊥
+    not_noted i =
+        let r = map_in (λ (t : Turned). t.next) v c.es i in
+        let a = area_back (at v) (at v) (at r.0.last) in
+        let b : Leftward at (triangle v v r.0.last) = subst (λ u. Leftward at (triangle v u r.0.last)) r.2 (entry_leftward r.0 r.1) in
+        omega lin
 
     -- what a triangle of the fan holds, its node holds
     entry_holds : (t : Turned) → In t c.es → (x : Triangle) → triangle v t.next t.last ≡ x → (p : Spot) → closed_holds at x p ≡ true

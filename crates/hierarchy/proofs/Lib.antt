@@ -1,5 +1,6 @@
 pub mod Elements
 pub mod Examples
+pub mod Counts
 pub mod Looks
 pub mod Corners
 pub mod Holes
@@ -8,3 +9,5 @@ pub mod Shares
 pub mod Growth
 pub mod Theorems
 pub mod Turns
+pub mod Falls
+pub mod TakesOut

@@ -1,7 +1,7 @@
 -- What looking at the vertices of a round finds: which are chosen, and how many nodes close their holes.
-use Rattle.std.proofs.Common.{◌≡◌, ℕ, zero, suc, ◌+◌, ◌-◌, ◌<◌, ◌≤◌, ◌⊎◌, Bool, true, false, cond, List, [], ◌∷◌, ◌++◌, length, map, replicate, set, Some, None, Option, Ok, Err, Result, is_some, sym, refl, ap, ◌∙◌, subst, inl, inr, arith, length-append, get_or-set_other, get_or-set_same}
+use Rattle.std.proofs.Common.{◌≡◌, ℕ, zero, suc, ◌+◌, ◌-◌, ◌<◌, ◌≤◌, ◌⊎◌, Bool, true, false, cond, List, [], ◌∷◌, ◌++◌, length, map, nat_lt, replicate, set, Some, None, Option, Ok, Err, Result, is_some, sym, refl, ap, ◌∙◌, subst, inl, inr, arith, length-append, get_or-set_other, get_or-set_same}
 use Rattle.std.specs.List.{list_any}
-use Rattle.std.proofs.lemmas.Bool.{and_parts, both_ways, cases_eq, cases_lt, eqb-true, false_from_ne_true, leb-true, not-true, true≢false}
+use Rattle.std.proofs.lemmas.Bool.{and_parts, both_ways, cases_eq, cases_lt, cond-false, cond-true, eqb-true, false_from_ne_true, leb-true, lt-ltb, not-true, true≢false}
 use Rattle.std.proofs.lemmas.List.{length-map, length-replicate, length-set}
 use Rattle.std.proofs.lemmas.List.Folds.{list_any_at}
 use Rattle.plane.specs.Edges.{In}
@@ -11,9 +11,10 @@ use Rattle.ears.specs.Ears.{cut_of}
 use Rattle.ears.proofs.Rotations.{cut_is_cut}
 use Rattle.nodes.specs.declared.node.Node.{Node}
 use Rattle.fans.specs.declared.around.Turned.{Turned}
-use Rattle.fans.specs.Around.{around, nodes_of}
+use Rattle.fans.specs.Around.{around, left_from, nodes_of}
 use Rattle.fans.specs.Fans.{fan_of, is_whole, ring_of}
 use Rattle.rounds.specs.Choices.{Found, chosen_too, closed, closed_fan, closing, closings, hole_node, is_choice, is_marked, judge, look, look_all, look_from, look_on, nothing_found, passed}
+use Rattle.hierarchy.proofs.Counts.{counted}
 use Rattle.hierarchy.proofs.Elements.{place_in}
 
 some_from : {X : Type 0} (o : Option X) → is_some o ≡ true → (x : X) × (o ≡ Some x)
@@ -58,15 +59,15 @@ module _ (at : ℕ → GridPoint) (nodes : List Node) (live : List ℕ) where
   -- it is passed, or it is chosen
   abbrev Stepped : Found → Found → ℕ → Type 0
   Stepped f h v =
-      ((h.marks ≡ f.marks) × (h.fresh ≡ f.fresh))
-      ⊎ (Choice f.marks v × (h.marks ≡ set f.marks v true) × (h.fresh ≡ f.fresh + (length (around nodes live v) - 2)))
+      ((h.marks ≡ f.marks) × (h.fresh ≡ f.fresh) × (h.chosen ≡ f.chosen))
+      ⊎ (Choice f.marks v × (h.marks ≡ set f.marks v true) × (h.fresh ≡ f.fresh + (length (around nodes live v) - 2)) × (h.chosen ≡ f.chosen + 1))
 
-  same_found : (f h : Found) (v : ℕ) → (f.marks ≡ h.marks) → (f.fresh ≡ h.fresh) → Stepped f h v
-  same_found f h v m n = inl (sym m, sym n)
+  same_found : (f h : Found) (v : ℕ) → (f.marks ≡ h.marks) → (f.fresh ≡ h.fresh) → (f.chosen ≡ h.chosen) → Stepped f h v
+  same_found f h v m n c = inl (sym m, sym n, sym c)
 
   judged : (f h : Found) (v : ℕ) (ts es : List Turned) → around nodes live v ≡ ts → fan_of ts ≡ Some es
       → (b : Bool) → is_choice at f.marks ts es ≡ b → cond b (chosen_too v (length ts) f) (passed f) ≡ h → Stepped f h v
-  judged f h v ts es a e false c q = same_found f h v (ap (λ (g : Found). g.marks) q) (ap (λ (g : Found). g.fresh) q)
+  judged f h v ts es a e false c q = same_found f h v (ap (λ (g : Found). g.marks) q) (ap (λ (g : Found). g.fresh) q) (ap (λ (g : Found). g.chosen) q)
   judged f h v ts es a e true c q =
       let r = and_parts _ _ c in
       let r₀ = and_parts _ _ r.0 in
@@ -89,6 +90,7 @@ module _ (at : ℕ → GridPoint) (nodes : List Node) (live : List ℕ) where
         },
         sym (ap (λ (g : Found). g.marks) q),
         sym (ap (λ (g : Found). g.fresh) q) ∙ ap (λ l. f.fresh + (length l - 2)) (sym a),
+        sym (ap (λ (g : Found). g.chosen) q),
       )
 
   found_same : (f h : Found) → ◌≡◌ {A = Result Found ℕ} (Ok f) (Ok h) → f ≡ h
@@ -99,7 +101,7 @@ module _ (at : ℕ → GridPoint) (nodes : List Node) (live : List ℕ) where
   judged_any f h v ts a (Some es) e q = judged f h v ts es a e (is_choice at f.marks ts es) refl (found_same _ _ q)
 
   stepped : (f h : Found) (v : ℕ) (ts : List Turned) → around nodes live v ≡ ts → look at v ts f ≡ Ok h → Stepped f h v
-  stepped f h v [] a q = let s = found_same _ _ q in same_found f h v (ap (λ (g : Found). g.marks) s) (ap (λ (g : Found). g.fresh) s)
+  stepped f h v [] a q = let s = found_same _ _ q in same_found f h v (ap (λ (g : Found). g.marks) s) (ap (λ (g : Found). g.fresh) s) (ap (λ (g : Found). g.chosen) s)
   stepped f h v (t ∷ ts) a q = judged_any f h v (t ∷ ts) a (fan_of (t ∷ ts)) refl q
 
   -- ---- the vertices from one on
@@ -109,6 +111,7 @@ module _ (at : ℕ → GridPoint) (nodes : List Node) (live : List ℕ) where
     above : (w : ℕ) → v + k ≤ w → is_marked g.marks w ≡ false
     choice : (w : ℕ) → v ≤ w → is_marked g.marks w ≡ true → Choice g.marks w
     fresh : g.fresh ≡ f.fresh + length (closings at nodes live g.marks k v)
+    chosen : g.chosen ≡ f.chosen + counted (is_marked g.marks) k v
 
   abbrev Unmarked : Found → ℕ → Type 0
   Unmarked f v = (w : ℕ) → v ≤ w → is_marked f.marks w ≡ false
@@ -132,6 +135,7 @@ module _ (at : ℕ → GridPoint) (nodes : List Node) (live : List ℕ) where
             | inr q ↦ n.choice w (omega arith) e
           ];
           fresh = let a = closings_are false here in let b = n.fresh in let c = s.1 in omega arith;
+          chosen = let a : cond {A = ℕ} (is_marked g.marks v) 1 0 ≡ 0 = cond-false _ 1 0 here in let b = n.chosen in let c = s.2 in omega arith;
         }
     joined (inr s) =
         let here : is_marked g.marks v ≡ true = n.below v (omega arith) ∙ ap (λ ms. is_marked ms v) s.1 ∙ get_or-set_same f.marks v true false (omega arith) in
@@ -154,6 +158,7 @@ module _ (at : ℕ → GridPoint) (nodes : List Node) (live : List ℕ) where
             | inr q ↦ n.choice w (omega arith) e
           ];
           fresh = let a = closings_are true here in let b = n.fresh in let d = s.2 in let e = closing_count f.marks v c in omega arith;
+          chosen = let a : cond {A = ℕ} (is_marked g.marks v) 1 0 ≡ 1 = cond-true _ 1 0 here in let b = n.chosen in let d = s.3 in omega arith;
         }
 
   on_ok : (r : Result Found ℕ) (rest : Found → Result Found ℕ) (g : Found) → look_on at r rest ≡ Ok g → (h : Found) × (r ≡ Ok h) × (rest h ≡ Ok g)
@@ -177,12 +182,40 @@ module _ (at : ℕ → GridPoint) (nodes : List Node) (live : List ℕ) where
         above = λ w i. ap (λ (x : Found). is_marked x.marks w) (sym s) ∙ u w (omega arith);
         choice = λ w i t. absurd (both_ways (is_marked g.marks w) (ap (λ (x : Found). is_marked x.marks w) (sym s) ∙ u w i) t);
         fresh = ap (λ (x : Found). x.fresh) (sym s) ∙ omega arith;
+        chosen = ap (λ (x : Found). x.chosen) (sym s) ∙ omega arith;
       }
   looked (suc k) v f g u l e =
       let r = on_ok (look at v (around nodes live v) f) (look_from at nodes live k (v + 1)) g e in
       let s = stepped f r.0 v (around nodes live v) refl r.1 in
       let m = marks_kept f r.0 v s in
       joined k v f r.0 g u l (looked k (v + 1) r.0 g (still_unmarked f r.0 v u s) (omega arith) r.2) s
+
+  -- ---- how many are left
+
+  one_left : (f h : Found) (v : ℕ) (ts : List Turned) (b : Bool) → cond b (chosen_too v (length ts) f) (passed f) ≡ h → h.left ≡ f.left + 1
+  one_left f h v ts true q = sym (ap (λ (g : Found). g.left) q)
+  one_left f h v ts false q = sym (ap (λ (g : Found). g.left) q)
+
+  judged_left : (f h : Found) (v : ℕ) (ts : List Turned) (o : Option (List Turned)) → judge at v ts f o ≡ Ok h → h.left ≡ f.left + 1
+  judged_left f h v ts None q = cc
+  judged_left f h v ts (Some es) q = one_left f h v ts (is_choice at f.marks ts es) (found_same _ _ q)
+
+  -- a vertex with a live node is left
+  stepped_left : (f h : Found) (v : ℕ) (ts : List Turned) → look at v ts f ≡ Ok h → h.left ≡ f.left + cond (nat_lt 0 (length ts)) 1 0
+  stepped_left f h v [] q = let s = ap (λ (g : Found). g.left) (found_same _ _ q) in omega arith
+  stepped_left f h v (t ∷ ts) q =
+      let s = judged_left f h v (t ∷ ts) (fan_of (t ∷ ts)) q in
+      let one : cond {A = ℕ} (nat_lt 0 (length (t ∷ ts))) 1 0 ≡ 1 = cond-true _ 1 0 (lt-ltb 0 (length (t ∷ ts)) (omega arith)) in
+      omega arith
+
+  looked_left : (k v : ℕ) (f g : Found) → look_from at nodes live k v f ≡ Ok g → g.left ≡ f.left + left_from nodes live k v
+  unfolding look_from
+  looked_left zero v f g e = let s = ap (λ (x : Found). x.left) (found_same _ _ e) in omega arith
+  looked_left (suc k) v f g e =
+      let r = on_ok (look at v (around nodes live v) f) (look_from at nodes live k (v + 1)) g e in
+      let a = stepped_left f r.0 v (around nodes live v) r.1 in
+      let b = looked_left k (v + 1) r.0 g r.2 in
+      omega arith
 
   -- ---- all of them
 
@@ -191,6 +224,8 @@ module _ (at : ℕ → GridPoint) (nodes : List Node) (live : List ℕ) where
     pub within : (w : ℕ) → is_marked g.marks w ≡ true → (4 ≤ w) × (w < 4 + n)
     pub choice : (w : ℕ) → is_marked g.marks w ≡ true → Choice g.marks w
     pub fresh : g.fresh ≡ length (closings at nodes live g.marks n 4)
+    pub chosen : g.chosen ≡ counted (is_marked g.marks) n 4
+    pub left : g.left ≡ left_from nodes live n 4
 
   pub seen : (n : ℕ) (g : Found) → look_all at nodes live n ≡ Ok g → Seen n g
   seen n g e =
@@ -203,4 +238,6 @@ module _ (at : ℕ → GridPoint) (nodes : List Node) (live : List ℕ) where
         within = λ w t. (inside w t, elim (cases_lt w (4 + n)) [ inl i ↦ i | inr i ↦ absurd (both_ways (is_marked g.marks w) (k.above w i) t) ]);
         choice = λ w t. k.choice w (inside w t) t;
         fresh = k.fresh ∙ omega arith;
+        chosen = k.chosen ∙ omega arith;
+        left = looked_left n 4 (nothing_found (n + 4)) g e ∙ omega arith;
       }

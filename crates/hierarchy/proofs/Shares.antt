@@ -109,7 +109,7 @@ module _ (at : ℕ → GridPoint) (nodes : List Node) (live : List ℕ) (marks :
     | inr t ↦ elim (or_cases _ _ t) [ inl e ↦ ((node_at nodes j).b, inr (inl refl), e) | inr e ↦ ((node_at nodes j).c, inr (inr (inl refl)), e) ]
   ]
 
-  no_marked_corner : (j : ℕ) → goes at nodes live marks j ≡ false → (u : ℕ) → In u (corners (triangle_of nodes j)) → is_marked marks u ≡ true → ⊥
+  pub no_marked_corner : (j : ℕ) → goes at nodes live marks j ≡ false → (u : ℕ) → In u (corners (triangle_of nodes j)) → is_marked marks u ≡ true → ⊥
   no_marked_corner j h u i m = go (or_parts _ _ h) i
     where
       off : (w : ℕ) → u ≡ w → is_marked marks w ≡ false → ⊥
@@ -122,10 +122,9 @@ module _ (at : ℕ → GridPoint) (nodes : List Node) (live : List ℕ) (marks :
       go r (inr (inr (inl e))) = off _ e (or_parts _ _ r.1).1
       go r (inr (inr (inr z))) = z
 
-  module _ (n : ℕ) (within : (w : ℕ) → is_marked marks w ≡ true → (4 ≤ w) × (w < 4 + n)) (choice : (w : ℕ) → is_marked marks w ≡ true → Choice at nodes live marks w)
-      (alive : (k : ℕ) → In k live → k < length nodes) (g : ℕ → ℤ) (j : ℕ) (i : In j live) where
+  module _ (choice : (w : ℕ) → is_marked marks w ≡ true → Choice at nodes live marks w) (j : ℕ) (i : In j live) where
     -- two chosen corners of a live node are one
-    one_corner : (u w : ℕ) → is_marked marks u ≡ true → takes u j ≡ true → is_marked marks w ≡ true → takes w j ≡ true → w ≡ u
+    pub one_corner : (u w : ℕ) → is_marked marks u ≡ true → takes u j ≡ true → is_marked marks w ≡ true → takes w j ≡ true → w ≡ u
     one_corner u w m t m' t' = elim (cases_order w u) [
       | inl e ↦ e
       | inr (inl l) ↦ absurd (both_ways (is_marked marks w)
@@ -134,13 +133,15 @@ module _ (at : ℕ → GridPoint) (nodes : List Node) (live : List ℕ) (marks :
           (none_before at nodes live marks w (choice w m') j i t' u (turn_has nodes u j t) l (λ e. omega arith)) m)
     ]
 
+  module _ (n : ℕ) (within : (w : ℕ) → is_marked marks w ≡ true → (4 ≤ w) × (w < 4 + n)) (choice : (w : ℕ) → is_marked marks w ≡ true → Choice at nodes live marks w)
+      (alive : (k : ℕ) → In k live → k < length nodes) (g : ℕ → ℤ) (j : ℕ) (i : In j live) where
     -- a live node with a chosen corner is taken once, and the others are not
     taken : (b : Bool) → goes at nodes live marks j ≡ b → shares g n 4 j ≡ cond b (g j) (pos 0)
     taken true h =
         let r = marked_corner j h in
         let t = has_turn nodes r.0 j (alive j i) r.1 in
         let k = within r.0 r.2 in
-        one_takes g j r.0 r.2 t (λ w m s. one_corner r.0 w r.2 t m s) n 4 k.0 k.1
+        one_takes g j r.0 r.2 t (λ w m s. one_corner choice j i r.0 w r.2 t m s) n 4 k.0 k.1
     taken false h = no_shares g j n 4 (λ w l m s. no_marked_corner j h w (turn_has nodes w j s) m)
 
     pub taken_once : shares g n 4 j ≡ where_true (goes at nodes live marks) g j

@@ -75,13 +75,13 @@ module _ (s : Sheet) (nodes : List Node) (live made : List ℕ) (r : ℕ) (m : M
   in_order : InOrder (plane_of s)
   in_order = checked_is_in_order s m.legal m.checked
 
-  ground_nodes : (ns : List Node) × (bottom_of s ≡ Ok ns)
+  pub ground_nodes : (ns : List Node) × (bottom_of s ≡ Ok ns)
   ground_nodes = bottom_is s nodes live made r m.layers
 
   kept_so : (ns : List Node) → bottom_of s ≡ Ok ns → Kept (place_of (points_of s)) (length s.inner + 4) ns nodes live made r
   kept_so ns e = kept s in_order ns e nodes live made r m.layers
 
-  keeps : Kept (place_of (points_of s)) (length s.inner + 4) ground_nodes.0 nodes live made r
+  pub keeps : Kept (place_of (points_of s)) (length s.inner + 4) ground_nodes.0 nodes live made r
   keeps = kept_so ground_nodes.0 ground_nodes.1
 
   -- a node of the bottom has no children

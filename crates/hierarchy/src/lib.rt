@@ -3,6 +3,7 @@
 #![tactic(auto)]
 
 ghost use Rattle.hierarchy.specs.Examples.{LayerExamples};
+ghost use Rattle.hierarchy.specs.Falls.{RoundTakesOut, RoundsAreFew};
 ghost use Rattle.hierarchy.specs.Theorems.{BottomIsCut, ChildlessIsBottom, ChildrenAreEarlier, ChildrenCover, CornersAreVertices, LiveCountsAsBorder, LiveCovers, NodesTurnLeft};
 ghost use Rattle.hierarchy.specs.Turns.{TurnsMakeLayers};
 
@@ -60,4 +61,18 @@ pub fn layer_examples_stand()
 /// defined of the sheet alone.
 pub fn turns_make_layers_stands()
     ensures { TurnsMakeLayers }
+{}
+
+/// Rounds that each take out a vertex at least, and no fewer than an eighteenth of those left, are at most thirteen for each binary digit
+/// of the count of inner vertices.
+#[tactic(auto, using(crate::proofs::Falls::rounds_are_few))]
+pub fn rounds_are_few_stands()
+    ensures { RoundsAreFew }
+{}
+
+/// A round tells how many vertices are left, and takes its own out: what is left after it, with the chosen ones, is no more than what was
+/// left before.
+#[tactic(auto, using(crate::proofs::TakesOut::round_takes_out))]
+pub fn round_takes_out_stands()
+    ensures { RoundTakesOut }
 {}

@@ -1,14 +1,13 @@
 //! The answers of tips: a line for each, and a dot in the picture.
+use crate::list::TipList;
 use crate::picture::{Dot, Picture, Spot};
 use crate::sealed::{Cell, Numeral, Sealed};
 use crate::tally::Tally;
-use crate::tips::{LineError, Tip, next_line, read_tip};
+use crate::tips::{LineError, next_line, read_tip};
 use anyhow::anyhow;
 use nodes::ReadStore;
-use plane::Kernel;
 use refusal::Refusal;
 use std::alloc::Global;
-use std::fmt::Display;
 use std::io;
 use std::io::{BufRead, Write};
 use walk::Found;
@@ -22,7 +21,7 @@ pub(crate) struct Report<W, P> {
 }
 
 impl<W: Write, P: Write> Report<W, P> {
-    /// Answers the tips of a file line by line, and keeps none.
+    /// Answers the tips of a file in lists, in the order of the file, and keeps no more of them than a list holds.
     pub(crate) fn answer_all<S: ReadStore, R: BufRead>(
         &mut self,
         heap: Global,
@@ -31,50 +30,67 @@ impl<W: Write, P: Write> Report<W, P> {
         tips: &mut R,
     ) -> anyhow::Result<()> {
         self.write_head(sealed)?;
+        let mut list = TipList::new(heap)?;
         let mut line = Vec::new(heap);
         for number in 1..u64::MAX {
             match next_line(tips, &mut line) {
-                Ok(true) => self.answer_line(heap, sealed, number, line.as_slice())?,
+                Ok(true) => self.take_line(heap, sealed, &mut list, number, line.as_slice())?,
                 Ok(false) => break,
-                Err(e) => return Err(anyhow!(format!(in heap; "{path}: {e}")?)),
+                Err(e) => {
+                    self.flush(heap, sealed, &mut list)?;
+                    return Err(anyhow!(format!(in heap; "{path}: {e}")?));
+                }
             }
         }
-        Ok(())
+        self.flush(heap, sealed, &mut list)
     }
 
-    // Answers the tip of a line, where it has one.
-    fn answer_line<S: ReadStore>(
+    // Gathers the tip of a line, where it has one. A bad line is told after the tips before it, so it ends their list.
+    fn take_line<S: ReadStore>(
         &mut self,
         heap: Global,
         sealed: &mut Sealed<S>,
+        list: &mut TipList,
         number: u64,
         line: &[u8],
     ) -> anyhow::Result<()> {
         match read_tip(line) {
             Ok(None) => Ok(()),
-            Ok(Some(Tip::Whole(tip))) => self.answer(heap, sealed, &tip, Spot::from(tip)),
-            Ok(Some(Tip::Rational(tip))) => self.answer(heap, sealed, &tip, Spot::from(tip)),
-            Err(error) => Ok(self.tell_bad_line(number, error)?),
+            Ok(Some(tip)) => {
+                list.push(tip)?;
+                if list.is_full() {
+                    self.flush(heap, sealed, list)?;
+                }
+                Ok(())
+            }
+            Err(error) => {
+                self.flush(heap, sealed, list)?;
+                Ok(self.tell_bad_line(number, error)?)
+            }
         }
     }
 
-    // Answers one tip, which is at this spot.
-    fn answer<K: Kernel + Display, S: ReadStore>(
+    // Answers the tips that are gathered, tells their answers, and empties the list.
+    fn flush<S: ReadStore>(
         &mut self,
         heap: Global,
         sealed: &mut Sealed<S>,
-        tip: &K,
-        spot: Spot,
+        list: &mut TipList,
     ) -> anyhow::Result<()> {
-        // As text, since what prints a tip takes no width.
-        let text = format!(in heap; "{tip}")?;
-        match sealed.place(tip) {
-            Ok(found) => self.tell(heap, sealed, text.as_str(), spot, found),
-            Err(refusal) => Ok(self.tell_refused(text.as_str(), refusal)?),
+        list.answer(sealed);
+        for (tip, answer) in list.tips.iter().zip(list.answers.iter()) {
+            // As text, since what prints a tip takes no width.
+            let text = format!(in heap; "{tip}")?;
+            match *answer {
+                Ok(found) => self.tell(heap, sealed, text.as_str(), Spot::from(*tip), found)?,
+                Err(refusal) => self.tell_refused(text.as_str(), list.in_file(refusal))?,
+            }
         }
+        list.clear();
+        Ok(())
     }
 
-    // The columns' names. No tip is kept, so the columns are as wide as most tips and all cells and wordings need.
+    // The columns' names. No more tips are held than a list has, so the columns are as wide as most tips and all cells and wordings need.
     fn write_head<S: ReadStore>(&mut self, sealed: &Sealed<S>) -> io::Result<()> {
         let room = sealed.wordings.room;
         writeln!(

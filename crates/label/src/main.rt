@@ -6,10 +6,12 @@ mod args;
 mod broken;
 mod decimal;
 mod failure;
+mod list;
 mod parts;
 mod picture;
 mod sealed;
 mod tally;
+mod tip;
 mod tips;
 mod wordings;
 

@@ -3,6 +3,7 @@ ghost use Rattle.std.specs.Prelude.{◌≤◌};
 
 use crate::decimal::Thousandths;
 use crate::sealed::{Cell, Sealed};
+use crate::tip::Tip;
 use nodes::ReadStore;
 use plane::{Edge, Point, RationalTip, WholeTip, place};
 use rules::loop_edges;
@@ -26,22 +27,19 @@ pub(crate) struct Spot {
     z: u64,
 }
 
-impl From<WholeTip> for Spot {
-    fn from(tip: WholeTip) -> Spot {
-        Spot {
-            x: u64::from(tip.x),
-            y: u64::from(tip.y),
-            z: 1,
-        }
-    }
-}
-
-impl From<RationalTip> for Spot {
-    fn from(tip: RationalTip) -> Spot {
-        Spot {
-            x: tip.x,
-            y: tip.y,
-            z: u64::from(tip.z),
+impl From<Tip> for Spot {
+    fn from(tip: Tip) -> Spot {
+        match tip {
+            Tip::Whole(WholeTip { x, y }) => Spot {
+                x: u64::from(x),
+                y: u64::from(y),
+                z: 1,
+            },
+            Tip::Rational(RationalTip { x, y, z }) => Spot {
+                x,
+                y,
+                z: u64::from(z),
+            },
         }
     }
 }
@@ -303,7 +301,7 @@ mod tests {
         };
         picture.draw(&Dot {
             tip: "20 14 3",
-            spot: Spot::from(RationalTip { x: 20, y: 14, z: 3 }),
+            spot: Spot::from(Tip::Rational(RationalTip { x: 20, y: 14, z: 3 })),
             found: Found {
                 answer: Answer::Face(0),
                 tests: 9,

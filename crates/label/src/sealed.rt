@@ -1,8 +1,8 @@
 //! A sheet in which tips are answered.
+use crate::tip::Tip;
 use crate::wordings::Wordings;
 use desk::Desk;
 use nodes::ReadStore;
-use plane::Kernel;
 use refusal::Refusal;
 use sheet::{Answer, Size};
 use std::io::Write;
@@ -18,9 +18,13 @@ pub(crate) struct Sealed<S> {
 }
 
 impl<S: ReadStore> Sealed<S> {
-    /// Names the cell that holds a tip.
-    pub(crate) fn place<K: Kernel>(&mut self, tip: &K) -> Result<Found, Refusal> {
-        self.desk.place(tip, &self.store)
+    /// Answers tips one after another into a table: each with the cell that holds it, or with its refusal.
+    pub(crate) fn list(
+        &mut self,
+        tips: &[Tip],
+        answers: &mut [Result<Found, Refusal>],
+    ) -> Result<(), Refusal> {
+        self.desk.list(tips, &self.store, answers)
     }
 
     /// The numeral of a face, where its loop has one; the other cells have none.

@@ -1,4 +1,5 @@
 //! The lines of a file of tips.
+use crate::tip::Tip;
 use plane::{RationalTip, WholeTip};
 use std::io::{BufRead, Read};
 use std::num::{IntErrorKind, ParseIntError};
@@ -10,13 +11,6 @@ const MOST_LINE: usize = 1000;
 
 // One byte more: a line that is too long is seen to be, and is never held whole.
 const MOST_HELD: u64 = 1001;
-
-/// A tip as its line has it: how many numbers there are tells its kernel.
-#[derive(Clone, Copy, PartialEq, Eq, Debug)]
-pub(crate) enum Tip {
-    Whole(WholeTip),
-    Rational(RationalTip),
-}
 
 /// What is wrong with a line.
 #[derive(Clone, Copy, PartialEq, Eq, Debug)]

@@ -1,5 +1,5 @@
 -- What is answered to a tip of a sealed sheet.
-use Rattle.std.specs.Prelude.{◌≡◌, ℕ, ◌≤◌, cond, true, List, length, pos, ◌<ℤ◌, is_some, Some, Option, Ok, Err, Result}
+use Rattle.std.specs.Prelude.{◌≡◌, ℕ, ◌+◌, ◌≤◌, cond, true, List, [], ◌∷◌, length, pos, ◌<ℤ◌, is_some, Some, Option, Ok, Err, Result}
 use Rattle.plane.specs.declared.Point.{Point}
 use Rattle.plane.specs.Kernels.{on_sheet_said}
 use Rattle.plane.specs.Points.{Spot, is_on_sheet}
@@ -31,6 +31,11 @@ place_said z tip position points nodes tops =
     (or_wrong (find_said (side_from points tip) (length points) nodes z.loops tops))
     (Err (refused OffSheet Place position)))
     (Err (refused UnfitTip Place position))
+
+-- the answers to tips from a position on, one after another
+abbrev pub list_said : Size → (position : ℕ) → List Point → List Node → (tops : List ℕ) → List (Option Spot) → List (Result Found Refusal)
+list_said z position points nodes tops [] = []
+list_said z position points nodes tops (tip ∷ tips) = place_said z tip position points nodes tops ∷ list_said z (position + 1) points nodes tops tips
 
 -- an answer that names the one cell of the sheet that holds the point
 pub record Names (s : Sheet) (p : Spot) (f : Found) : Type 0 where

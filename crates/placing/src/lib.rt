@@ -1,9 +1,11 @@
 //! The answer to a tip of a sealed sheet, or why there is none.
 #![tactic(auto)]
 
-ghost use Rattle.std.specs.Prelude.{◌≡◌};
-ghost use Rattle.placing.specs.Placings.{PlaceTells, place_said};
+ghost use Rattle.std.specs.Prelude.{◌≡◌, ◌≤◌, length, map, take};
+ghost use Rattle.lent.specs.Kept.{over};
+ghost use Rattle.placing.specs.Placings.{PlaceTells, list_said, place_said};
 
+use checking::front;
 use nodes::ReadStore;
 use plane::{Kernel, Point};
 use refusal::{Cause, Layer, Refusal};
@@ -34,6 +36,39 @@ pub fn place_tip<K: Kernel, S: ReadStore>(
         Ok(found) => Ok(found),
         Err(place) => Err(Refusal::new(Cause::OutOfRange, Layer::Place, place)),
     }
+}
+
+// Answers tips one after another into a table that has an entry for each.
+fn answer_tips<K: Kernel, S: ReadStore>(
+    size: Size,
+    tips: &[K],
+    points: &[Point],
+    tops: &[u16],
+    store: &S,
+    answers: &mut [Result<Found, Refusal>],
+)
+    requires { length tips.now ≤ length answers.old }
+    ensures { answers.new ≡ over (list_said size 0 points.now (S.nodes store.now) tops.now (map K.means tips.now)) answers.old }
+{
+    for i in 0..tips.len() {
+        answers[i] = place_tip(size, &tips[i], i, points, tops, store);
+    }
+}
+
+/// Answers tips one after another into a table, as many as it has entries for; the entries behind stay.
+#[tactic(auto, using(crate::proofs::Listing::means_of_front))]
+pub fn place_all<K: Kernel, S: ReadStore>(
+    size: Size,
+    tips: &[K],
+    points: &[Point],
+    tops: &[u16],
+    store: &S,
+    answers: &mut [Result<Found, Refusal>],
+)
+    ensures { answers.new ≡ over (list_said size 0 points.now (S.nodes store.now) tops.now (take (length answers.old) (map K.means tips.now))) answers.old }
+{
+    let tips = front(tips, answers.len());
+    answer_tips(size, tips, points, tops, store, answers);
 }
 
 /// Over nodes that cuts and rounds made of a checked sheet, the answer to every tip on the sheet names the one cell that holds it.

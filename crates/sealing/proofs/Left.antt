@@ -2,9 +2,8 @@
 use Rattle.std.proofs.Common.{◌≡◌, ◌≢◌, ℕ, suc, ◌+◌, ◌-◌, ◌<◌, true, false, cond, List, min, nat_lt, sym, ap, ◌∙◌, arith}
 use Rattle.std.proofs.lemmas.Bool.{cond-false, cond-true}
 use Rattle.std.proofs.lemmas.Bool.Decides.{nat_tests}
-use Rattle.fans.specs.Around.{degree}
+use Rattle.fans.specs.Around.{degree, left_from}
 use Rattle.nodes.specs.declared.node.Node.{Node}
-use Rattle.sealing.specs.Seals.{left_from}
 
 module _ (nodes : List Node) (live : List ℕ) (n v left total t : ℕ) (inside : v < n) (h : left + left_from nodes live (n - v) (v + 4) ≡ total)
     (count : t ≡ min 65535 (degree nodes live (v + 4))) where

@@ -1,17 +1,12 @@
 -- What a seal answers.
-use Rattle.std.specs.Prelude.{ℕ, zero, suc, ◌+◌, ◌==◌, cond, List, length, nat_le, nat_lt, Some, None, Option, Ok, Err, Result}
+use Rattle.std.specs.Prelude.{ℕ, ◌==◌, cond, List, length, nat_le, Some, None, Option, Ok, Err, Result}
 use Rattle.refusal.specs.declared.Cause.TheVariants.{OutOfRange, VerticesLeft}
 use Rattle.refusal.specs.declared.Layer.TheVariants.{Build}
 use Rattle.refusal.specs.declared.Refusal.{Refusal}
 use Rattle.refusal.specs.Numbers.{refused}
-use Rattle.fans.specs.Around.{degree}
+use Rattle.fans.specs.Around.{left_from}
 use Rattle.nodes.specs.declared.node.Node.{Node}
 use Rattle.rounds.specs.Rounds.{wrong_nodes}
-
--- of so many vertices from v on, how many are left: have a live node
-abbrev pub left_from : List Node → List ℕ → (n v : ℕ) → ℕ
-left_from nodes live zero v = 0
-left_from nodes live (suc n) v = cond (nat_lt 0 (degree nodes live v)) 1 0 + left_from nodes live n (v + 1)
 
 -- vertices that are left are told; where none is, two nodes are live, unless something was altered
 abbrev pub left_said : (left live : ℕ) → Result (Unit {0}) Refusal

@@ -2,8 +2,8 @@
 #![tactic(auto)]
 
 ghost use Rattle.std.specs.Prelude.{◌≡◌, ◌≤◌, Ok as Good, length};
-ghost use Rattle.fans.specs.Around.{live_said};
-ghost use Rattle.sealing.specs.Seals.{left_from, left_said as left_said_of, seal_said};
+ghost use Rattle.fans.specs.Around.{left_from, live_said};
+ghost use Rattle.sealing.specs.Seals.{left_said as left_said_of, seal_said};
 
 use fans::degrees;
 use nodes::ReadStore;

@@ -1,10 +1,10 @@
 use crate::alter::{alter, node_of, put_behind};
-use crate::placed::{place, rational_tip, whole_tip};
+use crate::placed::{Asked, ask, many, one};
 use crate::stored::{MOST_NODES, play};
 use crate::words::{bytes_of, digest};
 use desk::{Desk, LEAST, Lengths};
 use nodes::{BlockStore, Node, ReadStore, SliceStore};
-use plane::Kernel;
+use plane::{Kernel, RationalTip, WholeTip};
 use refusal::Refusal;
 use sheet::{Answer, Size, wording};
 use std::alloc::{AllocError, Global};
@@ -61,8 +61,10 @@ impl Table {
                 };
                 Ok(rt.println(said)?)
             }
-            "place" => self.place(rt, whole_tip(&mut words)),
-            "placeq" => self.place(rt, rational_tip(&mut words)),
+            "place" => self.ask::<WholeTip>(rt, one(&mut words)),
+            "placeq" => self.ask::<RationalTip>(rt, one(&mut words)),
+            "list" => self.ask::<WholeTip>(rt, many(rt.alloc(), &mut words)?),
+            "listq" => self.ask::<RationalTip>(rt, many(rt.alloc(), &mut words)?),
             "stage" => self.print_stage(rt),
             "short" => self.shorten(rt, next(), next()),
             "tables" => self.print_tables(rt),
@@ -91,19 +93,24 @@ impl Table {
         Ok(())
     }
 
-    // Places a tip, by the nodes in its memory.
-    fn place<K: Kernel + Drop>(&mut self, rt: &HostRuntime, tip: Option<K>) -> anyhow::Result<()> {
-        let Some(tip) = tip else {
-            return Ok(rt.println("no such number")?);
+    // Asks the board, which has the nodes in its memory; or prints why nothing is asked.
+    fn ask<K: Kernel + Drop>(
+        &mut self,
+        rt: &HostRuntime,
+        asked: Result<Asked<K>, &'static str>,
+    ) -> anyhow::Result<()> {
+        let asked = match asked {
+            Ok(asked) => asked,
+            Err(said) => return Ok(rt.println(said)?),
         };
         match &mut self.memory {
             Memory::Slots(slots) => {
                 let store = SliceStore::over(slots.as_mut_slice(), self.used);
-                place(rt, &mut self.desk, &tip, &store)
+                ask(rt, &mut self.desk, &asked, &store)
             }
             Memory::Blocks(bytes) => {
                 let store = BlockStore::over(bytes.as_mut_slice(), self.used);
-                place(rt, &mut self.desk, &tip, &store)
+                ask(rt, &mut self.desk, &asked, &store)
             }
         }
     }

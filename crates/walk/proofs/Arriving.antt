@@ -1,6 +1,7 @@
 -- A walk over the nodes of a checked sheet arrives at a bottom node that holds the point.
-use Rattle.std.proofs.Common.{◌≡◌, ℕ, zero, suc, ◌+◌, ◌<◌, ◌≤◌, ◌==◌, true, false, List, Some, Ok, length, take, pos, ◌<ℤ◌, nat_le, nat_lt, refl, sym, ap, ◌∙◌, subst, inl, inr, arith}
+use Rattle.std.proofs.Common.{◌≡◌, ℕ, zero, suc, ◌+◌, ◌*◌, ◌<◌, ◌≤◌, ◌==◌, true, false, ◌&&◌, List, Some, Ok, length, take, pos, ◌<ℤ◌, nat_le, nat_lt, slice_index, refl, sym, ap, ◌∙◌, subst, inl, inr, arith}
 use Rattle.std.proofs.lemmas.Bool.{cases_Bool, cond-false, cond-true}
+use Rattle.std.proofs.lemmas.List.{length-take}
 use Rattle.std.proofs.lemmas.Bool.Decides.{nat_tests}
 use Rattle.plane.specs.Edges.{In}
 use Rattle.plane.specs.Points.{Spot}
@@ -32,13 +33,20 @@ module _ (s : Sheet) (nodes : List Node) (live made : List ℕ) (rounds : ℕ) (
   abbrev pub Arrives : (steps k tests : ℕ) → Type 0
   Arrives steps k tests =
       (b t : ℕ) × (down_from (side_in s p) (length (points_of s)) nodes steps k tests ≡ Ok (walked (Some b) t))
-      × (b < length nodes) × ((node_at nodes b).count ≡ 0) × Holds s nodes p b
+      × (t ≤ tests + 24 * slice_index made k) × (b < length nodes) × ((node_at nodes b).count ≡ 0) × Holds s nodes p b
 
   lower : (k : ℕ) → k < length nodes → (x : ℕ) → In x (take (node_at nodes k).count (children_of nodes k)) → x < k
   lower k inside x i =
       let e = (children_are_earlier s nodes live made rounds m).1 k inside in
       let r = in_children nodes k (node_at nodes k).count x i in
       subst (λ c. c < k) (sym r.2) (e.2 r.0 r.1).0
+
+  -- and it was made in an earlier round
+  earlier : (k : ℕ) → k < length nodes → (x : ℕ) → In x (take (node_at nodes k).count (children_of nodes k)) → slice_index made x < slice_index made k
+  earlier k inside x i =
+      let e = (children_are_earlier s nodes live made rounds m).1 k inside in
+      let r = in_children nodes k (node_at nodes k).count x i in
+      subst (λ c. slice_index made c < slice_index made k) (sym r.2) (e.2 r.0 r.1).1
 
   children_fit : (k : ℕ) → k < length nodes → Fits s nodes p k (take (node_at nodes k).count (children_of nodes k))
   children_fit k inside =
@@ -64,18 +72,23 @@ module _ (s : Sheet) (nodes : List Node) (live made : List ℕ) (rounds : ℕ) (
     deeper next =
         let e = (children_are_earlier s nodes live made rounds m).1 k inside in
         let w = found.0 in
-        let c = found.2.0 in
-        let l = lower k inside c found.2.2 in
-        let r = next c w.tests (omega (arith, l, h)) (omega (arith, l, inside)) found.2.3 in (
+        let c = found.3.0 in
+        let l = lower k inside c found.3.2 in
+        let r = next c w.tests (omega (arith, l, h)) (omega (arith, l, inside)) found.3.3 in
+        let tested = found.2 in
+        let below = earlier k inside c found.3.2 in
+        let children : length (take (node_at nodes k).count (children_of nodes k)) ≤ 8 = let n = length-take (node_at nodes k).count (children_of nodes k) in omega (arith, n) in
+        let deep = r.3 in (
           r.0,
           r.1,
           cond-false _ _ _ some ∙ cond-true _ _ _ (few (node_at nodes k).count e.1)
               ∙ ap (λ f. walk_on f (λ (w : Walked). go_down (side_in s p) (length (points_of s)) nodes k (down_from (side_in s p) (length (points_of s)) nodes steps) w.node w.tests)) found.1
-              ∙ ap (λ o. go_down (side_in s p) (length (points_of s)) nodes k (down_from (side_in s p) (length (points_of s)) nodes steps) o w.tests) found.2.1
+              ∙ ap (λ o. go_down (side_in s p) (length (points_of s)) nodes k (down_from (side_in s p) (length (points_of s)) nodes steps) o w.tests) found.3.1
               ∙ r.2,
-          r.3,
+          omega (arith, tested, below, children, deep),
           r.4,
           r.5,
+          r.6,
         )
       where
         few : (c : ℕ) → c ≤ 8 → nat_le c 8 ≡ true
@@ -86,7 +99,7 @@ module _ (s : Sheet) (nodes : List Node) (live made : List ℕ) (rounds : ℕ) (
   arrives zero k tests h inside holds = absurd (omega (arith, h))
   arrives (suc steps) k tests h inside holds =
       elim (cases_Bool ((node_at nodes k).count == 0)) [
-        | inl e ↦ (k, tests, cond-true _ _ _ e, inside, none (node_at nodes k).count e, holds)
+        | inl e ↦ (k, tests, cond-true _ _ _ e, omega arith, inside, none (node_at nodes k).count e, holds)
         | inr e ↦ deeper steps k tests h inside holds e (λ c t l i g. arrives steps c t l i g)
       ]
     where

@@ -1,7 +1,7 @@
 -- What a walk over the nodes of a checked sheet finds.
-use Rattle.std.proofs.Common.{◌≡◌, ℕ, ◌+◌, true, false, List, [], ◌∷◌, Some, Ok, length, nat_lt, refl, sym, ap, ◌∙◌, subst, inl, inr}
+use Rattle.std.proofs.Common.{◌≡◌, ℕ, ◌+◌, ◌*◌, ◌≤◌, true, false, List, [], ◌∷◌, Some, Ok, length, nat_lt, refl, sym, ap, ◌∙◌, subst, inl, inr, arith}
 use Rattle.std.proofs.lemmas.Bool.{cases_Bool, cond-false, cond-true, false≢true}
-use Rattle.walk.proofs.Signs.{full_test, held_by_test}
+use Rattle.walk.proofs.Signs.{at_most_three, full_test, held_by_test}
 use Rattle.plane.specs.Edges.{In}
 use Rattle.plane.specs.Points.{Spot, place_of}
 use Rattle.nodes.specs.declared.node.Node.{Node}
@@ -34,7 +34,8 @@ module _ (s : Sheet) (nodes : List Node) (p : Spot) where
 
   abbrev pub Finds : (from bound : ℕ) → List ℕ → ℕ → Type 0
   Finds from bound ks tests =
-      (w : Walked) × (first_holding (side_in s p) (length (points_of s)) nodes from bound ks tests ≡ Ok w) × ((c : ℕ) × (w.node ≡ Some c) × In c ks × Holds c)
+      (w : Walked) × (first_holding (side_in s p) (length (points_of s)) nodes from bound ks tests ≡ Ok w) × (w.tests ≤ tests + 3 * length ks)
+      × ((c : ℕ) × (w.node ≡ Some c) × In c ks × Holds c)
 
   module _ (from bound j : ℕ) (ks : List ℕ) (tests : ℕ) (fits : Fits bound (j ∷ ks)) where
     trial : first_holding (side_in s p) (length (points_of s)) nodes from bound (j ∷ ks) tests
@@ -48,10 +49,15 @@ module _ (s : Sheet) (nodes : List Node) (p : Spot) where
     here holds =
         let t = full j in
         let n = node_at nodes j in
-        (walked (Some j) (tests + t.tests), trial ∙ cond-true _ _ _ holds, (j, refl, inl refl, sym (held_by_test (place_of (points_of s)) p n.a n.b n.c) ∙ holds))
+        let few = at_most_three (side_in s p) n.a n.b n.c in
+        (walked (Some j) (tests + t.tests), trial ∙ cond-true _ _ _ holds, omega (arith, few), (j, refl, inl refl, sym (held_by_test (place_of (points_of s)) p n.a n.b n.c) ∙ holds))
 
     later : (full j).holds ≡ false → Finds from bound ks (tests + (full j).tests) → Finds from bound (j ∷ ks) tests
-    later fails f = (f.0, trial ∙ cond-false _ _ _ fails ∙ f.1, (f.2.0, f.2.1, inr f.2.2, f.2.3))
+    later fails f =
+        let n = node_at nodes j in
+        let few = at_most_three (side_in s p) n.a n.b n.c in
+        let rest = f.2 in
+        (f.0, trial ∙ cond-false _ _ _ fails ∙ f.1, omega (arith, few, rest), (f.3.0, f.3.1, inr f.3.2, f.3.3))
 
   pub first_found : (from bound : ℕ) (ks : List ℕ) (tests : ℕ) → Fits bound ks → (k : ℕ) → In k ks → Holds k → Finds from bound ks tests
   first_found from bound [] tests fits k i h = absurd i

@@ -1,5 +1,5 @@
 -- Which sides have a point on their right, by their determinants.
-use Rattle.std.proofs.Common.{◌≡◌, ℕ, Bool, true, false, not, cond, ◌&&◌, ℤ, pos, negsuc, zero, suc, int_le, nat_lt, Some, ap, refl, sym, ◌∙◌, arith}
+use Rattle.std.proofs.Common.{◌≡◌, ℕ, ◌≤◌, Bool, true, false, not, cond, ◌&&◌, ℤ, pos, negsuc, zero, suc, int_le, nat_lt, Some, ap, refl, sym, ◌∙◌, arith}
 use Rattle.std.proofs.lemmas.Bool.{and_from, cond-true}
 use Rattle.std.proofs.lemmas.Bool.Decides.{nat_tests}
 use Rattle.plane.specs.Points.{GridPoint, Spot, det, side_of}
@@ -37,6 +37,15 @@ is_full side vertices a b c h k l = cond-true _ _ _ (and_from _ _ h k) ∙ ap (�
     some_test false true r = refl
     some_test false false true = refl
     some_test false false false = refl
+
+pub at_most_three : (side : ℕ → ℕ → Side) (a b c : ℕ) → (full_test side a b c).tests ≤ 3
+at_most_three side a b c = three (is_right (side a b)) (is_right (side b c)) (is_right (side c a))
+  where
+    three : (p q r : Bool) → (cond p (tested 1 false) (cond q (tested 2 false) (cond r (tested 3 false) (tested 3 true)))).tests ≤ 3
+    three true q r = omega arith
+    three false true r = omega arith
+    three false false true = omega arith
+    three false false false = omega arith
 
 -- it holds a point where none of its sides has it on its right
 pub held_by_test : (at : ℕ → GridPoint) (p : Spot) (a b c : ℕ)

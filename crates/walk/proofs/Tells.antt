@@ -1,5 +1,5 @@
 -- A walk over the nodes of a checked sheet tells the one cell that holds the point.
-use Rattle.std.proofs.Common.{◌≡◌, ℕ, ◌<◌, ◌≤◌, true, List, Some, Ok, Err, length, pos, ◌<ℤ◌, nat_le, nat_lt, sym, ap, ◌∙◌, subst, arith}
+use Rattle.std.proofs.Common.{◌≡◌, ℕ, ◌+◌, ◌*◌, ◌<◌, ◌≤◌, true, List, Some, Ok, Err, length, pos, ◌<ℤ◌, nat_le, nat_lt, sym, ap, ◌∙◌, subst, arith}
 use Rattle.std.proofs.lemmas.Bool.{and_from, cond-true}
 use Rattle.std.proofs.lemmas.Bool.Decides.{nat_tests}
 use Rattle.std.proofs.lemmas.List.{length-map}
@@ -14,7 +14,7 @@ use Rattle.rules.proofs.Orders.{checked_is_in_order}
 use Rattle.hierarchy.specs.Layers.{Layers, node_at, shape, triangles_of_loop}
 use Rattle.hierarchy.specs.Layers.Layers.{bottom, round}
 use Rattle.hierarchy.specs.Theorems.{Made}
-use Rattle.hierarchy.proofs.Theorems.{bottom_is_cut, childless_is_bottom, live_covers, nodes_turn_left}
+use Rattle.hierarchy.proofs.Theorems.{bottom_is_cut, childless_is_bottom, children_are_earlier, live_covers, nodes_turn_left}
 use Rattle.walk.specs.declared.steps.Walked.{Walked}
 use Rattle.walk.specs.Telling.{WalkTells, cell_of, side_in}
 use Rattle.walk.specs.Walks.{down_from, find_said, found, go_down, told_at, told_node, walk_from, walk_on, walked}
@@ -41,7 +41,7 @@ module _ (s : Sheet) (nodes : List Node) (live made : List ℕ) (rounds : ℕ) (
   Comes : Type 0
   Comes =
       (b t : ℕ) × (walk_from (side_in s p) (length (points_of s)) nodes live ≡ Ok (walked (Some b) t))
-      × (b < length nodes) × ((node_at nodes b).count ≡ 0) × Holds s nodes p b
+      × (t ≤ 24 * rounds + 3 * length live) × (b < length nodes) × ((node_at nodes b).count ≡ 0) × Holds s nodes p b
 
   comes : Comes
   unfolding Comes
@@ -49,17 +49,21 @@ module _ (s : Sheet) (nodes : List Node) (live made : List ℕ) (rounds : ℕ) (
       let there = (nodes_turn_left s nodes live made rounds m).1 in
       let top = live_covers s nodes live made rounds m p z on in
       let f = first_found s nodes p 0 (length nodes) live 0 live_fit top.0 top.1 top.2 in
-      let c = f.2.0 in
-      let a = arrives s nodes live made rounds m p z (length nodes) c f.0.tests (there c f.2.2) (there c f.2.2) f.2.3 in
+      let c = f.3.0 in
+      let a = arrives s nodes live made rounds m p z (length nodes) c f.0.tests (there c f.3.2) (there c f.3.2) f.3.3 in
+      let early = ((children_are_earlier s nodes live made rounds m).1 c (there c f.3.2)).0 in
+      let tested = f.2 in
+      let deep = a.3 in
       let down = down_from (side_in s p) (length (points_of s)) nodes (length nodes) in (
         a.0,
         a.1,
         ap (λ r. walk_on r (λ (w : Walked). go_down (side_in s p) (length (points_of s)) nodes 0 down w.node w.tests)) f.1
-            ∙ ap (λ o. go_down (side_in s p) (length (points_of s)) nodes 0 down o f.0.tests) f.2.1
+            ∙ ap (λ o. go_down (side_in s p) (length (points_of s)) nodes 0 down o f.0.tests) f.3.1
             ∙ a.2,
-        a.3,
+        omega (arith, early, tested, deep),
         a.4,
         a.5,
+        a.6,
       )
 
 pub walk_tells : WalkTells
@@ -69,7 +73,7 @@ walk_tells s nodes live made rounds m few p z on =
     let ns = has_bottom s nodes live made rounds m.layers in
     let cb = childless_is_bottom s ns.0 ns.1 nodes live made rounds m in
     let n = node_at nodes a.0 in
-    let bn = (cb.1 a.0 (cb.2 a.0 a.3 a.4)).1 in
+    let bn = (cb.1 a.0 (cb.2 a.0 a.4 a.5)).1 in
     let es = edges_of s in
     let ring = bn.ring in
     let marks = ap (λ k. nat_lt k 8) bn.sides ∙ few_sides (is_drawn es n.a n.b) (is_drawn es n.b n.c) (is_drawn es n.c n.a) in
@@ -82,10 +86,10 @@ walk_tells s nodes live made rounds m few p z on =
     let order = checked_is_in_order s m.legal m.checked in
     let cut = bottom_is_cut s ns.0 ns.1 in
     let loops = length-map s.rings (λ (r : Ring). r.corners) in
-    let tells = (triangle_tells (plane_of s) (triangles_of_loop s) order cut p z).1 n.ring (omega (arith, ring, loops)) (shape n) bn.cut a.5 in
+    let tells = (triangle_tells (plane_of s) (triangles_of_loop s) order cut p z).1 n.ring (omega (arith, ring, loops)) (shape n) bn.cut a.6 in
     let holds = subst (λ c. cell_holds (plane_of s) c p ≡ true) (sym (node_tells s p n bn.sides)) tells in
     let one = one_cell (plane_of s) (triangles_of_loop s) order cut p z on in
-    (found answer a.1, said, holds, λ d h. one.2 d h ∙ sym (one.2 (cell_of answer) holds))
+    (found answer a.1, said, holds, λ d h. one.2 d h ∙ sym (one.2 (cell_of answer) holds), a.3)
   where
     within : (k : ℕ) → k ≤ 65535 → nat_le k 65535 ≡ true
     within k h = grind (arith, nat_tests)

@@ -1,5 +1,5 @@
 -- What a walk over the nodes of a checked sheet tells.
-use Rattle.std.specs.Prelude.{◌≡◌, ℕ, ◌≤◌, true, List, length, pos, ◌<ℤ◌, Ok}
+use Rattle.std.specs.Prelude.{◌≡◌, ℕ, ◌+◌, ◌*◌, ◌≤◌, true, List, length, pos, ◌<ℤ◌, Ok}
 use Rattle.plane.specs.declared.Side.{Side}
 use Rattle.plane.specs.Points.{Spot, det, is_on_sheet, place_of, side_of}
 use Rattle.nodes.specs.declared.node.Node.{Node}
@@ -23,7 +23,7 @@ cell_of (OpenEdge u v) = open_edge u v
 cell_of (Face l) = face l
 
 -- the theorem: of nodes that cuts and rounds made of a checked sheet, the walk from the live ones tells of every point of the sheet the one
--- cell that holds it
+-- cell that holds it, with no more tests than 24 for each round, and 3 for each live node
 abbrev pub WalkTells : Type 0
 WalkTells =
     (s : Sheet) (nodes : List Node) (live made : List ℕ) (rounds : ℕ) → Made s nodes live made rounds → length live ≤ 65535
@@ -31,3 +31,4 @@ WalkTells =
     → (f : Found) × (find_said (side_in s p) (length (points_of s)) nodes (length s.rings) live ≡ Ok f)
     × (cell_holds (plane_of s) (cell_of f.answer) p ≡ true)
     × ((c : Cell) → cell_holds (plane_of s) c p ≡ true → c ≡ cell_of f.answer)
+    × (f.tests ≤ 24 * rounds + 3 * length live)

@@ -1,5 +1,5 @@
 use Rattle.std.proofs.Common.{◌+◌, ◌-◌, ap, ◌∙◌, arith}
-use Rattle.sealing.specs.Seals.{left_from}
+use Rattle.fans.specs.Around.{left_from}
 use Rattle.sealing.proofs.Left.{none_left, some_left}
 use Rattle.sealing.proofs.count_left.Goals.{then-table-v-ne0, else-table-v-ne0}
 use Rattle.sealing.proofs.count_left.Goals as goal

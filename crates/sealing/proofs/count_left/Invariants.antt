@@ -1,5 +1,5 @@
 use Rattle.std.proofs.Common.{◌≡◌, ◌+◌, ◌-◌, ◌≤◌}
-use Rattle.sealing.specs.Seals.{left_from}
+use Rattle.fans.specs.Around.{left_from}
 use Rattle.sealing.proofs.count_left.Given as goal
 
 -- those that are counted, and those from here on, are all
