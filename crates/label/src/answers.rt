@@ -38,7 +38,7 @@ impl<W: Write, P: Write> Report<W, P> {
                 Ok(false) => break,
                 Err(e) => {
                     self.flush(heap, sealed, &mut list)?;
-                    return Err(anyhow!(format!(in heap; "{path}: {e}")?));
+                    return Err(anyhow!(format!(in heap; "{path:?}: {e}")?));
                 }
             }
         }

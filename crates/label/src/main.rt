@@ -50,11 +50,11 @@ fn read_arguments(rt: &HostRuntime) -> anyhow::Result<Asked> {
     }
 }
 
-// What a file gave, or what failed with the file's name before it.
+// What a file gave, or what failed with the file's name before it, on one line whatever is in the name.
 fn named<T>(heap: Global, path: &str, outcome: io::Result<T>) -> anyhow::Result<T> {
     match outcome {
         Ok(value) => Ok(value),
-        Err(e) => Err(anyhow!(format!(in heap; "{path}: {e}")?)),
+        Err(e) => Err(anyhow!(format!(in heap; "{path:?}: {e}")?)),
     }
 }
 
@@ -115,7 +115,6 @@ fn answer_file<S: ReadStore, W: Write, P: Write>(
     let heap = rt.alloc();
     let file = named(heap, path, fs::open(rt, path))?;
     let mut tips = BufReader::new(heap, file)?;
-    sealed.write_size(&mut report.out)?;
     sealed.write_layers(&mut report.out)?;
     report.answer_all(heap, sealed, path, &mut tips)
 }
@@ -127,6 +126,10 @@ fn carry_out<S: ReadStore>(
     sealed: &mut Sealed<S>,
 ) -> anyhow::Result<()> {
     let heap = rt.alloc();
+    let mut out = BufWriter::new(heap, io::writer(rt))?;
+    // It fails where standard output is closed, before the picture's file would take its place.
+    sealed.write_size(&mut out)?;
+    out.flush()?;
     let picture = match &asked.svg {
         None => None,
         Some(path) => {
@@ -135,7 +138,7 @@ fn carry_out<S: ReadStore>(
         }
     };
     let mut report = Report {
-        out: BufWriter::new(heap, io::writer(rt))?,
+        out,
         picture,
         tally: Tally::default(),
     };

@@ -6,12 +6,11 @@ use rules::loop_edges;
 use std::io::Write;
 use std::{fmt, io};
 
-/// Writes the size and the counts of a sheet in order, how it is layered, and a line for each loop.
+/// Writes that a sheet is in order, how it is layered, and a line for each loop.
 pub(crate) fn write_parts<S: ReadStore, W: Write>(
     out: &mut W,
     sealed: &Sealed<S>,
 ) -> io::Result<()> {
-    sealed.write_size(out)?;
     writeln!(out, "in order: it keeps the eight rules")?;
     sealed.write_layers(out)?;
     let room = sealed.wordings.room;

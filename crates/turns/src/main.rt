@@ -15,13 +15,21 @@ use table::Table;
 fn run(rt: &HostRuntime) -> anyhow::Result<()> {
     let heap = rt.alloc();
     let mut table = Table::new(heap, LEAST)?;
-    for line in BufReader::new(heap, rt.stdin())?.lines(heap) {
-        let line = line?;
-        if !line.is_empty() && !line.as_str().starts_with('#') {
-            table.play(rt, line.as_str())?;
-        }
+    for line in BufReader::new(heap, rt.stdin())?.split(heap, b'\n') {
+        play_line(rt, &mut table, line?.as_slice())?;
     }
     Ok(())
+}
+
+// Plays the command of a line; a blank line and a comment have none.
+fn play_line(rt: &HostRuntime, table: &mut Table, line: &[u8]) -> anyhow::Result<()> {
+    if matches!(line, [] | [b'\r'] | [b'#', ..]) {
+        return Ok(());
+    }
+    match str::from_utf8(line) {
+        Ok(text) => table.play(rt, text.strip_suffix('\r').unwrap_or(text)),
+        Err(_) => Ok(rt.println("no such text")?),
+    }
 }
 
 fn main(rt: HostRuntime) -> anyhow::Result<()> {
