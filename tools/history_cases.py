@@ -6,7 +6,9 @@ has to be tried in every stage, or there is no script at all.
 """
 
 import random
+from functools import partial
 
+from generate_bad import byte_changed, cut_off, longer
 from layer_cases import PLATE
 from list_cases import LISTS
 from place_cases import place
@@ -61,12 +63,11 @@ def file_at_random(draw):
     somewhere, or whose sheet breaks a rule."""
     data, kind = draw.choice(GOOD), draw.randrange(10)
     if kind == 0:
-        return data[:draw.randrange(len(data))]
+        return cut_off(draw, data)
     if kind == 1:
-        return data + bytes([draw.randrange(256)])
+        return longer(draw, data)
     if kind <= 3:
-        place = draw.randrange(len(data))
-        return data[:place] + bytes([draw.randrange(16)]) + data[place + 1:]
+        return byte_changed(draw, data, 16)
     return draw.choice(BROKEN) if kind == 4 else data
 
 
@@ -78,10 +79,10 @@ def tip_at_random(draw, board, kernel):
     return x * z + draw.randint(0, 1), y * z + draw.randint(0, 1), z
 
 
-def play(s, draw, turn):
+def play(s, draw, turn, some_file):
     board = s.player.board
     if turn == "load":
-        s.load(file_at_random(draw))
+        s.load(some_file())
     elif turn in ("place", "list"):
         kernel = draw.choice(tuple(LISTS))
         if turn == "place":
@@ -93,17 +94,16 @@ def play(s, draw, turn):
         s.do(turn)
 
 
-def history(s, seed, tried):
-    """One history, and what the board holds at its end."""
-    draw = random.Random(seed)
-    s.do(draw.choice(BOARDS), "ok")
+def history(s, draw, boards, some_file, tried):
+    """One history on one of these boards, and what it holds at its end."""
+    s.do(draw.choice(boards), "ok")
     for _ in range(TURNS):
         board = s.player.board
         turn = leading_on(draw, board, s.outcomes[-1]) if draw.randrange(10) < 7 else None
         if turn is None:
             turn = draw.choices(tuple(OFTEN), OFTEN.values())[0]
         stage = stage_of(board)
-        play(s, draw, turn)
+        play(s, draw, turn, some_file)
         # Over a short table it is not the stage that decides.
         if not s.outcomes[-1].startswith("refused 12"):
             tried.add((turn, stage))
@@ -115,7 +115,8 @@ def history_cases(s):
     tried = set()
     for seed in range(HISTORIES):
         s.note(f"a history of turns at random, {seed + 1} of {HISTORIES}")
-        history(s, seed, tried)
+        draw = random.Random(seed)
+        history(s, draw, BOARDS, partial(file_at_random, draw), tried)
     stages = ("empty", "Draft", "Checked", "Layered", "Sealed")
     never = [(turn, stage) for turn in OFTEN for stage in stages if (turn, stage) not in tried]
     if never:

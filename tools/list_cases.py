@@ -8,9 +8,10 @@ are in history_cases.py.
 
 import random
 
+from generate_tips import MOST_XY, MOST_Z, of_kernel, random_tip
 from layer_cases import LENT, PLATE, keeps, layered
 from place_altered_cases import GARBAGE, mend, put
-from place_cases import MOST_XY, MOST_Z, random_tip, sealed
+from place_cases import sealed
 from sheets import SPRING, grid, scattered, spiral
 
 # The worked whole tips of the spring sheet and one off it; what is told of each.
@@ -210,12 +211,6 @@ def altered(s):
         spring_list(s)
         s.alter("points 7 6 5")
         whole(s, 1, [(6, 5)], "ok 1 7 0 tests 6")
-
-
-def of_kernel(tip, kernel):
-    """A tip as the kernel takes it: where the point is not whole, one beside it."""
-    x, y, z = (*tip, 1)[:3]
-    return (x, y, z) if kernel == "rational" else (x // z, y // z)
 
 
 def tips_at_random(s, draw, kernel, count):

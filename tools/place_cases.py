@@ -9,14 +9,10 @@ place_altered_cases.py.
 
 import random
 
+from generate_tips import MILLION, MOST_XY, MOST_Z, beside, middle, random_tip, sides_of
 from layer_cases import LENT, PLATE, keeps, layered, to_the_end, wheel
 from rules import drawing, sheet_edges
 from sheets import SPRING, eight, grid, row, row_loops, scattered, sheet, spiral
-
-MILLION = 1_000_000
-
-# The largest numbers of a fit rational tip.
-MOST_Z, MOST_XY = 1_048_575, 8_589_934_591
 
 UNFIT, OFF, NOT_SEALED = "refused 25 4 0", "refused 26 4 0", "refused 28 4 0"
 NO_NUMBER = "no such number"
@@ -187,27 +183,6 @@ def borders(s):
         cell(s, (x, y, MILLION), kind, a, b)
 
 
-def middle(a, b):
-    """The tip in the middle of the line from a to b."""
-    return a[0] + b[0], a[1] + b[1], 2
-
-
-def beside(a, b):
-    """A tip one part in a million left of the middle of the line from a to b."""
-    (ax, ay), (bx, by) = a, b
-    x, y = (ax + bx) * MILLION // 2, (ay + by) * MILLION // 2
-    if abs(bx - ax) >= abs(by - ay):
-        y += 1 if bx > ax else -1
-    else:
-        x += 1 if by < ay else -1
-    return x, y, MILLION
-
-
-def sides_of(node):
-    a, b, c = node.corners
-    return (a, b), (b, c), (c, a)
-
-
 def all_places(s):
     """Tips at every vertex, on every edge and beside it on each side, on every
     side of a bottom node that is no edge, in every bottom node."""
@@ -278,25 +253,6 @@ def one_after_another(s):
     place(s, (6, 5), OFF)
     sealed(s, SPRING)
     place(s, *SPRING_TIPS[0])
-
-
-def random_tip(draw, board):
-    """A tip of one of five kinds, by turns as drawn: whole, rational, on an edge,
-    on a side of a node, near a vertex. Some are off the sheet."""
-    points, edges, _ = board.held()
-    kind = draw.randrange(5)
-    z = draw.choice((1, 2, 3, 1000, MILLION, MOST_Z, draw.randint(1, MOST_Z)))
-    if kind == 0:
-        return draw.randint(0, board.width + 1), draw.randint(0, board.height + 1)
-    if kind == 1:
-        return draw.randint(0, board.width * z), draw.randint(0, board.height * z), z
-    if kind == 4:
-        x, y = (max(0, w * z + draw.randint(-1, 1)) for w in draw.choice(points))
-        return x, y, z
-    a, b = draw.choice(edges) if kind == 2 else draw.choice(board.nodes).corners[:2]
-    t = draw.randint(0, z)
-    (ax, ay), (bx, by) = points[a], points[b]
-    return ax * (z - t) + bx * t, ay * (z - t) + by * t, z
 
 
 def random_tips(s):

@@ -116,6 +116,21 @@ def largest():
     return file(8191, 8191, inner, loops, labels)
 
 
+def lattice_loops(columns, rows):
+    """The squares between inner vertices that stand in rows, counted from the
+    lowest row on, and four loops about them."""
+    def at(i, j):
+        return 4 + columns * j + i
+
+    loops = [[at(i, j), at(i + 1, j), at(i + 1, j + 1), at(i, j + 1)]
+             for j in range(rows - 1) for i in range(columns - 1)]
+    right, top = columns - 1, rows - 1
+    return loops + [[0, 1] + [at(right - i, 0) for i in range(columns)],
+                    [1, 2] + [at(right, top - j) for j in range(rows)],
+                    [2, 3] + [at(i, top) for i in range(columns)],
+                    [3, 0] + [at(0, j) for j in range(rows)]]
+
+
 def grid_loops(side, triangles):
     """The inner vertices and the loops of a sheet of 8,000 by 8,000 with side
     by side inner vertices.
@@ -126,18 +141,7 @@ def grid_loops(side, triangles):
     step = 8000 // side
     inner = [(step // 2 + step * i, step // 2 + step * j)
              for j in range(side) for i in range(side)]
-
-    def at(i, j):
-        return 4 + side * j + i
-
-    span = range(side - 1)
-    loops = [[at(i, j), at(i + 1, j), at(i + 1, j + 1), at(i, j + 1)]
-             for j in span for i in span]
-    last = side - 1
-    loops += [[0, 1] + [at(last - i, 0) for i in range(side)],
-              [1, 2] + [at(last, last - j) for j in range(side)],
-              [2, 3] + [at(i, last) for i in range(side)],
-              [3, 0] + [at(0, j) for j in range(side)]]
+    loops = lattice_loops(side, side)
     if triangles:
         loops = [[loop[0], b, c]
                  for loop in loops for b, c in zip(loop[1:], loop[2:])]
@@ -165,8 +169,9 @@ def row(width, height, path):
     return sheet(width, height, path, loops)
 
 
-def spiral(turns):
-    """A band that winds inwards, and four loops about it; 8 vertices a turn."""
+def spiral_loops(turns):
+    """A band that winds inwards, and four loops about it; 8 vertices a turn.
+    The size of its sheet, the inner vertices and the loops."""
     size = 4 * turns + 20  # the innermost turn is 20 wide
 
     def line(inset):
@@ -181,6 +186,12 @@ def spiral(turns):
     band = list(range(4, 4 + len(inner)))
     loops = [band, [0, 1, 5, 4], [1, 2, 6, 5], [2, 3, 7, 6],
              [3, 0, 4] + band[:2:-1]]
+    return size, inner, loops
+
+
+def spiral(turns):
+    """The sheet of these."""
+    size, inner, loops = spiral_loops(turns)
     return sheet(size, size, inner, loops)
 
 
@@ -190,19 +201,28 @@ def is_inside(corners, p):
                for (ax, ay), (bx, by) in zip(corners, corners[1:] + corners[:1]))
 
 
+def sheet_corners(width, height):
+    """The points of vertices 0 to 3."""
+    return [(0, 0), (width, 0), (width, height), (0, height)]
+
+
+def split_at(points, loops, p):
+    """A point that is inside one of the triangles becomes a vertex, and splits
+    that in three; any other point changes nothing."""
+    for i, loop in enumerate(loops):
+        if is_inside([points[v] for v in loop], p):
+            v, (a, b, c) = len(points), loops.pop(i)
+            loops += [[v, a, b], [v, b, c], [v, c, a]]
+            points.append(p)
+            break
+
+
 def split_at_random(draw, width, height, inner):
     """The points of a sheet, and triangles as its loops: so many points are
     drawn, and each that is inside one of the triangles so far splits that."""
-    points = [(0, 0), (width, 0), (width, height), (0, height)]
-    loops = [[0, 1, 2], [0, 2, 3]]
+    points, loops = sheet_corners(width, height), [[0, 1, 2], [0, 2, 3]]
     for _ in range(inner):
-        p = draw.randrange(1, width), draw.randrange(1, height)
-        for i, loop in enumerate(loops):
-            if is_inside([points[v] for v in loop], p):
-                v, (a, b, c) = len(points), loops.pop(i)
-                loops += [[v, a, b], [v, b, c], [v, c, a]]
-                points.append(p)
-                break
+        split_at(points, loops, (draw.randrange(1, width), draw.randrange(1, height)))
     return points, loops
 
 

@@ -10,6 +10,7 @@ from one of them, nothing is written.
 import random
 import sys
 
+from generate_tips import MOST_XY, MOST_Z, on_segment
 from turns_script import Script
 
 SPRING_SIZE = (12, 10)
@@ -17,9 +18,7 @@ SPRING_SIZE = (12, 10)
 # The vertices of the spring sheet that the cases name.
 SPRING_AT = {0: (0, 0), 4: (3, 3), 5: (9, 3), 6: (9, 7), 7: (3, 7)}
 
-# The largest numbers of a fit rational tip, and of a point.
-MOST_Z = 1048575
-MOST_XY = 8589934591
+# The largest number of a point.
 MOST = 65535
 
 NO_NUMBER = "no such number"
@@ -236,13 +235,6 @@ def bad_words(s):
     against(s, (6, 5), 4, 5, fit(1, "yes"))
 
 
-def on_segment(draw, a, b, most_z):
-    """A point of the segment from a to b, in parts of a Z at random."""
-    z = draw.randint(1, most_z)
-    t = draw.randint(0, z)
-    return (a[0] * (z - t) + b[0] * t, a[1] * (z - t) + b[1] * t, z)
-
-
 def random_tips(s):
     s.note("tips at random, in six sizes by turns; every third is on its line")
     draw = random.Random(20260)
@@ -271,9 +263,7 @@ def main():
                  large_determinants, beside_a_line, makes, large_numbers,
                  bad_words, random_tips):
         part(s)
-    for path, lines in zip(sys.argv[1:3], (s.lines, s.outcomes)):
-        with open(path, "w", encoding="ascii") as out:
-            out.write("\n".join(lines) + "\n")
+    s.write(*sys.argv[1:3])
 
 
 if __name__ == "__main__":

@@ -8,14 +8,15 @@ reference differs from one of them, nothing is written. The cases of load are in
 load_cases.py, those of check in check_cases.py, rule_cases.py and
 altered_cases.py, those of cut, round and seal in layer_cases.py and
 layer_altered_cases.py, those of place in place_cases.py and
-place_altered_cases.py, those of list in list_cases.py, and turns in any order
-in history_cases.py.
+place_altered_cases.py, those of list in list_cases.py, turns in any order in
+history_cases.py, and scripts made at random in corpus.py.
 """
 
 import sys
 
 from altered_cases import altered_cases
 from check_cases import check_cases
+from corpus import corpus_cases
 from history_cases import history_cases
 from layer_altered_cases import layer_altered_cases
 from layer_cases import layer_cases
@@ -31,11 +32,9 @@ def main():
     s = Script()
     for part in (load_cases, check_cases, rule_cases, altered_cases, layer_cases,
                  layer_altered_cases, place_cases, place_altered_cases, list_cases,
-                 history_cases):
+                 history_cases, corpus_cases):
         part(s)
-    for path, lines in zip(sys.argv[1:3], (s.lines, s.outcomes)):
-        with open(path, "w", encoding="ascii") as out:
-            out.write("\n".join(lines) + "\n")
+    s.write(*sys.argv[1:3])
 
 
 if __name__ == "__main__":

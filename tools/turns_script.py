@@ -6,7 +6,8 @@ import sys
 sys.path.insert(0, os.path.join(os.path.dirname(__file__), "reference"))
 
 from play import Player
-from rules import all_broken, drawing
+from rules import all_broken, drawing, first_broken
+from sheetfile import Refusal, read
 from sheets import SPRING_FIELDS, number, put, upto
 
 # One field of every kind, by its name in the spring file.
@@ -31,6 +32,16 @@ def spring(name, value):
 def cut(name, *values):
     """The spring file up to a field, then only these bytes."""
     return upto(SPRING_FIELDS, name) + bytes(values)
+
+
+def earned(data):
+    """The number with which a file is refused by load, or its sheet by check; or None."""
+    found = read(data)
+    if isinstance(found, Refusal):
+        return found.number
+    loops = [(loop.numeral, loop.start, loop.corners) for loop in found.loops]
+    broken = first_broken(drawing(found.points, found.edges, loops))
+    return broken and broken[0]
 
 
 class Script:
@@ -92,3 +103,9 @@ class Script:
 
     def wording(self, data, kind, a, b, expected=None):
         self.do(f"wording {data.hex() or '-'} {kind} {a} {b}", expected)
+
+    def write(self, stdin, stdout):
+        """The script to one file, and the outcomes to another."""
+        for path, lines in ((stdin, self.lines), (stdout, self.outcomes)):
+            with open(path, "w", encoding="ascii") as out:
+                out.write("\n".join(lines) + "\n")
