@@ -11,6 +11,7 @@ from fire_runs import Violation, run
 from sheetfile import Refusal, read
 
 USAGE = b"label: usage: label SHEET [TIPS] [--svg FILE] [--stats]\n"
+OVERWRITES = b"label: --svg names a file that is read\n"
 
 REFUSED = re.compile(rb"label: refusal (\d+), layer (\d) \((?:file|check|build)\), place (\d+): .+\n")
 
@@ -71,7 +72,7 @@ def tips_at_random(draw):
 
 
 def huge_tips(draw, path):
-    """Writes millions of lines, or lines of 10 MB; how many of them are told."""
+    """Writes millions of lines, or lines of 200 MB; how many of them are told."""
     out = Written(path)
     if draw.randrange(2):
         block = b"".join(tip_line(draw, draw.choice(("near", "far", "words"))) + b"\n" for _ in range(500))
@@ -80,7 +81,7 @@ def huge_tips(draw, path):
     else:
         for _ in range(draw.randint(1, 3)):
             piece = draw.choice((b"7", b"7 ", b" ", b"\0", b"\xff", b"-", b"9" * 999 + b" ", b"\r", b"#x"))
-            out.put(piece, 10_000_000 // len(piece), 1 - piece.startswith(b"#"))
+            out.put(piece, 200_000_000 // len(piece), 1 - piece.startswith(b"#"))
             out.put(b"\n")
             out.put(b"6 5\n", 1, 1)
     if draw.randrange(2):
@@ -237,11 +238,13 @@ class LabelRun:
             self.find_ends(told)
 
     def find_due(self):
-        """What is due: `usage`, `failure`, a `refusal` of the file, or an `answer` where no rule is broken."""
+        """What is due: `usage`, `overwrite`, `failure`, a `refusal` of the file, or an `answer` where no rule is broken."""
         if not all(map(is_text, self.words)):
             return "failure"
         if self.asked is None:
             return "usage"
+        if self.asked[2] is not None and self.asked[2] in self.asked[:2]:
+            return "overwrite"
         data = front(self.folder, self.asked[0])
         if data is None:
             return "failure"
@@ -255,24 +258,21 @@ class LabelRun:
         self.can_end = ((svg is None or can_write(self.folder, svg))
                         and (tips is None or front(self.folder, tips) is not None)
                         and self.out == "read")
-        # What a picture is drawn over is not read as it was.
-        self.told = told if tips == b"tips" != svg else None
+        self.told = told if tips == b"tips" else None
         self.lines = len(self.sheet.loops) if tips is None else self.told
 
     def play(self, program):
         """Runs it; the known fault that was met, or none, and the kind of its end."""
         # Tips without an end are cut off, where the program comes to them.
-        _, tips, svg, _ = self.asked or (None,) * 4
-        is_fed = self.out == "closed" and tips is not None and tips == svg
-        is_endless = is_fed or tips in (b"/dev/zero", b"/dev/full")
+        tips = self.asked[1] if self.asked else None
+        is_endless = tips in (b"/dev/zero", b"/dev/full")
         seconds = [1] if is_endless else []
         ended = run([program, *self.words], self.folder, self.stdin, self.out, self.err, *seconds)
         self.ended = ended
         if is_endless and ended.stopped:
             ended.stopped, ended.status = False, 0
             ended.check()
-            # The picture has the place of the output, and what is told of each bad line is the next one.
-            return PICTURE_FOR_OUTPUT if is_fed else None, "stopped"
+            return None, "stopped"
         ended.check()
         if self.err != "read":
             return None, "unheard"
@@ -287,6 +287,8 @@ class LabelRun:
             fault = NAME_IN_TWO_LINES
         if self.due == "usage" and said != USAGE:
             raise Violation("its use is not told")
+        if self.due == "overwrite" and said != OVERWRITES:
+            raise Violation("it is not told that a file that is read would be drawn over")
         if self.due == "refusal" or said.startswith(b"label: refusal"):
             if self.due not in ("refusal", "answer"):
                 raise Violation(f"a refusal is told, and a {self.due} is due")

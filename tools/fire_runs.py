@@ -9,7 +9,7 @@ import time
 from dataclasses import dataclass
 
 # No run may take longer, and none may hold more kilobytes at its peak.
-MOST_SECONDS, MOST_KILOBYTES = 20, 512 * 1024
+MOST_SECONDS, MOST_KILOBYTES = 20, 128 * 1024
 
 # Nor is it given more memory than this, or may write a larger file, for the sake of the machine.
 MOST_SPACE, MOST_FILE = 4 << 30, 1 << 30

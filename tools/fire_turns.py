@@ -8,7 +8,8 @@ from fire_files import (BROKEN, GOOD, LARGE, NUMBERS, ODD_WORDS, SMALL, Written,
 from fire_runs import HEAD, Violation, run
 
 NAMES = [b"load", b"check", b"cut", b"round", b"seal", b"place", b"placeq", b"list", b"listq", b"wipe",
-         b"stage", b"tables", b"cards", b"live", b"wording", b"alter", b"short", b"capacity", b"blocks"]
+         b"stage", b"tables", b"cards", b"live", b"wording", b"alter", b"short", b"capacity", b"blocks",
+         b"whole", b"rational", b"make whole", b"make rational"]
 TABLES = [b"points", b"edges", b"strokes", b"loops", b"live", b"nodes", b"answers", b"", b"Points"]
 
 # A fault that is known and not mended yet.
@@ -16,7 +17,7 @@ LINE_ENDS_TURNS = "a line that is no text ends turns"
 
 # A line of the output, whatever the command.
 OUTCOME = re.compile(rb"ok( [ -~]*)?|refused \d+ [1-5] \d+|unknown command"
-                     rb"|no such (bytes|text|number|tips|table|entry|capacity|length|answer)")
+                     rb"|too long a line|no such (bytes|text|number|tips|table|entry|capacity|length|answer|kernel)")
 
 
 class Script(Written):
@@ -39,10 +40,10 @@ class Script(Written):
             self.is_text = is_text
 
     def put_long(self, begin, piece):
-        """One line of 10 MB."""
+        """One line of 200 MB."""
         is_command = not begin.startswith(b"#")
         self.put(begin)
-        self.put(piece, 10_000_000 // len(piece), is_command)
+        self.put(piece, 200_000_000 // len(piece), is_command)
         self.put(b"\n")
         self.before += is_command and self.is_text
 
@@ -160,7 +161,7 @@ def write_bytes(draw, script):
 
 
 def write_long_lines(draw, script):
-    """Lines of 10 MB."""
+    """Lines of 200 MB."""
     for _ in range(draw.randint(1, 3)):
         begin, piece = draw.choice((
             (b"load ", b"0"), (b"load ", b"01" * 50), (b"load ", hexed(draw.choice(GOOD))), (b"wording ", b"ff"),

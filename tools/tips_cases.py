@@ -1,17 +1,10 @@
-"""Writes a script on tips and the outcome of each command, for comparison:
-
-    python3 tools/tips_cases.py STDIN STDOUT
-
-What each kernel tells of a tip on a sheet against a line, and where it makes
-a tip. Cases written by hand also name their outcome; if the reference differs
-from one of them, nothing is written.
+"""Cases of what each kernel tells of a tip on a sheet against a line, and where
+it makes a tip.
 """
 
 import random
-import sys
 
 from generate_tips import MOST_XY, MOST_Z, on_segment
-from turns_script import Script
 
 SPRING_SIZE = (12, 10)
 
@@ -257,14 +250,8 @@ def random_tips(s):
             tell(s, (*tip, z), size, a, b)
 
 
-def main():
-    s = Script()
+def tips_cases(s):
     for part in (spring_tips, fit_limits, borders, lines_without_length,
                  large_determinants, beside_a_line, makes, large_numbers,
                  bad_words, random_tips):
         part(s)
-    s.write(*sys.argv[1:3])
-
-
-if __name__ == "__main__":
-    main()

@@ -68,6 +68,12 @@ class Script:
         self.outcomes.append(outcome)
         return outcome
 
+    def say(self, line, outcome):
+        """A line that is not played: its outcome by hand, or None where it prints nothing."""
+        self.lines.append(line)
+        if outcome is not None:
+            self.outcomes.append(outcome)
+
     def load(self, data, expected=None):
         return self.do(f"load {data.hex()}".rstrip(), expected)
 
@@ -107,5 +113,5 @@ class Script:
     def write(self, stdin, stdout):
         """The script to one file, and the outcomes to another."""
         for path, lines in ((stdin, self.lines), (stdout, self.outcomes)):
-            with open(path, "w", encoding="ascii") as out:
+            with open(path, "w", encoding="latin-1", newline="") as out:
                 out.write("\n".join(lines) + "\n")

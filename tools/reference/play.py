@@ -3,8 +3,8 @@
     python3 tools/reference/play.py < script
 
 One command a line, one line of outcome for each; blank lines and lines that
-start with # print nothing. Files are lower-case hex. The program `turns` plays
-the commands from `load` to `blocks`, the program `tips` the others.
+start with # print nothing. Files are lower-case hex. A line of more than 1,000,000
+bytes is answered "too long a line".
 
     load HEX               a turn; nothing after `load` is the empty file
     check                  a turn
@@ -66,6 +66,9 @@ import tips
 from board import LEAST, Board
 from sheetfile import Refusal, wording
 
+# The most bytes of a line that is played.
+MOST_LINE = 1_000_000
+
 COMMANDS = ("load", "check", "cut", "round", "seal", "place", "placeq", "list",
             "listq", "wipe", "stage", "tables", "cards", "live", "wording", "alter",
             "short", "capacity", "blocks", "whole", "rational", "make")
@@ -111,6 +114,8 @@ class Player:
         text = text.strip()
         if text == "" or text.startswith("#"):
             return None
+        if len(text) > MOST_LINE:
+            return "too long a line"
         name, *words = text.split()
         if name not in COMMANDS:
             raise ValueError(f"no such command: {name}")

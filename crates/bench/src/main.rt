@@ -101,3 +101,6 @@ fn main(rt: HostRuntime) -> anyhow::Result<ExitCode> {
     eprintln!(rt; "bench: {error}")?;
     Ok(ExitCode::FAILURE)
 }
+
+#[cfg(test)]
+mod tests;

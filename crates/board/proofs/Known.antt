@@ -17,7 +17,7 @@ use Rattle.sheet.specs.Sheets.{Sheet}
 use Rattle.checking.specs.Held.{Holds}
 use Rattle.checking.proofs.Loaded.{loaded_is_held}
 use Rattle.rules.specs.Rules.{first_broken}
-use Rattle.bottom.specs.Cuts.{cut_live, cut_nodes, cut_room}
+use Rattle.bottom.specs.Cuts.{cut_live, cut_nodes, build_room}
 use Rattle.rounds.specs.Rounds.{RoundLive, Rounded, round_nodes, round_said}
 use Rattle.walk.specs.declared.Found.{Found}
 use Rattle.board.specs.declared.stage.Board.{Board}
@@ -28,7 +28,7 @@ use Rattle.board.specs.Histories.Runs.{begin, turn}
 use Rattle.board.specs.Histories.Told.{answered, granted, listed, refused}
 use Rattle.board.specs.Histories.Turn.{check, cut, list, load, place, round, seal, wipe}
 use Rattle.board.specs.Law.{Seal, last_sheet, rounds_since, seal_of, standing}
-use Rattle.board.specs.Turns.{bare, check_board, checks, cut_board, cuts, is_checked, is_draft, is_layered, is_loaded, is_sealed, lists, load_board, load_room, loads, places, round_board, round_room, rounds, seal_board, seals}
+use Rattle.board.specs.Turns.{bare, check_board, checks, cut_board, cuts, is_checked, is_draft, is_layered, is_loaded, is_sealed, lists, load_board, loads, places, round_board, round_room, rounds, seal_board, seals}
 use Rattle.board.proofs.Standing.{Built, Ready, after_check, after_cut, after_round, after_seal, passed_by}
 
 -- ---- by the stage of the board
@@ -104,7 +104,7 @@ first_of_two false q h = cc
 -- a cut that is refused leaves the nodes as they were, but of a Checked sheet
 nodes_stay : (b : Board) (ps : List Point) (es : List Edge) (ls : List Loop) (live room : ℕ) (nodes : List Node) → is_checked b.stage ≡ false
     → cut_nodes (cuts b ps es ls live room) nodes ≡ nodes
-nodes_stay b ps es ls live room nodes off = by_room (cut_room (length ps) (length es) (length ls) live) (is_checked b.stage) _ off
+nodes_stay b ps es ls live room nodes off = by_room (build_room (length ps) (length es) (length ls) live) (is_checked b.stage) _ off
   where
     by_room : (p q : Bool) (said : Result (List Node) Refusal) → q ≡ false
         → cut_nodes (cond p (cond q said (Err (refusal NotThisStage Build 0))) (Err (refusal TableTooShort Build 0))) nodes ≡ nodes
@@ -121,7 +121,7 @@ module _ (h : History) (s : State) (k : Known h s) where
       → Known (event (load file) (told_by x) ∷ h) (loaded x s)
   after_load file (Err e) is = k
   after_load file (Ok sheet) is =
-      let g = passed_by (is_draft s.board.stage) _ _ sheet (passed_by (load_room (length s.points) (length s.edges) (length s.loops) (length s.live)) _ _ sheet is).1 in
+      let g = passed_by (is_draft s.board.stage) _ _ sheet (passed_by (build_room (length s.points) (length s.edges) (length s.loops) (length s.live)) _ _ sheet is).1 in
       λ l. record { sheet = sheet; loaded = ap result_ok g.1; holds = loaded_is_held file sheet s.points s.edges s.loops g.1 }
 
   after_checking : (x : Result (Unit {0}) Refusal) → checks s.board s.points s.edges s.loops s.strokes ≡ x
@@ -145,7 +145,7 @@ module _ (h : History) (s : State) (k : Known h s) where
       → Known (event cut (told_by x) ∷ h) (after s (cut_board x s.board) (cut_live x s.live) (cut_nodes x s.nodes))
   after_cutting (Err e) is = refused_cut s.board.stage e (no_checked s.board s.points s.edges s.loops (length s.live) s.room e s.nodes is) k
   after_cutting (Ok ns) is =
-      let g = passed_by (is_checked s.board.stage) _ _ ns (passed_by (cut_room (length s.points) (length s.edges) (length s.loops) (length s.live)) _ _ ns is).1 in
+      let g = passed_by (is_checked s.board.stage) _ _ ns (passed_by (build_room (length s.points) (length s.edges) (length s.loops) (length s.live)) _ _ ns is).1 in
       let r = is_right _ _ _ s.board s.points s.edges s.loops s.live s.nodes s.board.stage g.0 k in
       let c = after_cut r.held.sheet s.board s.points s.edges s.loops s.live s.nodes s.room ns r.held.holds r.right is in
       record { held = r.held; built = c.0; counted = c.1 }

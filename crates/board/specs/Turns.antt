@@ -11,7 +11,7 @@ use Rattle.sheet.specs.declared.tables.Size.{Size}
 use Rattle.sheet.specs.Load.{roomy, sheet_of}
 use Rattle.sheet.specs.Sheets.{Sheet, size_of, sizes}
 use Rattle.lent.specs.Kept.{over}
-use Rattle.bottom.specs.Cuts.{cut_room, cut_said}
+use Rattle.bottom.specs.Cuts.{build_room, cut_said}
 use Rattle.nodes.specs.declared.node.Node.{Node}
 use Rattle.placing.specs.Placings.{list_said, place_said}
 use Rattle.plane.specs.Points.{Spot}
@@ -57,14 +57,10 @@ is_sealed Checked = false
 is_sealed Layered = false
 is_sealed Sealed = true
 
--- the tables that a load is lent have their least sizes: 2,050 live numbers, and those of points, edges and loops
-abbrev pub load_room : ℕ → ℕ → ℕ → ℕ → Bool
-load_room points edges loops live = cond (nat_le 2050 live) (roomy points edges loops) false
-
 -- the sheet that a load takes, or why it is refused: first a table that is too short, then the stage, then the file
 abbrev pub loads : Board → List Point → List Edge → List Loop → List ℕ → List ℕ → Result Sheet Refusal
 loads b points edges loops live file =
-    cond (load_room (length points) (length edges) (length loops) (length live))
+    cond (build_room (length points) (length edges) (length loops) (length live))
     (cond (is_draft b.stage) (sheet_of file) (Err (refused NotThisStage File 0)))
     (Err (refused TableTooShort File 0))
 
@@ -100,7 +96,7 @@ SheetPasses b points edges loops strokes said =
 -- the nodes that a cut makes, or why not: first a table that is too short, then another stage, then what the tables hold
 abbrev pub cuts : Board → List Point → List Edge → List Loop → (live room : ℕ) → Result (List Node) Refusal
 cuts b points edges loops live room =
-    cond (cut_room (length points) (length edges) (length loops) live)
+    cond (build_room (length points) (length edges) (length loops) live)
     (cond (is_checked b.stage) (cut_said b.size points edges loops room) (Err (refused NotThisStage Build 0)))
     (Err (refused TableTooShort Build 0))
 

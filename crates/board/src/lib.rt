@@ -7,8 +7,8 @@ mod stage;
 mod turns;
 mod typed;
 
+pub use bottom::LEAST_LIVE;
 pub use stage::{Board, Stage};
-pub use turns::LEAST_LIVE;
 pub use typed::{Checked, Draft, Layered, Refused, Sealed};
 
 /// The law holds of every history that begins with an empty Draft, over tables and a store of any size and content: for whoever makes the turns

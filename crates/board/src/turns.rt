@@ -4,12 +4,12 @@ ghost use Rattle.reader.specs.Reading.{and_then};
 ghost use Rattle.sheet.specs.Sheets.{edges_of, loops_of, points_of};
 ghost use Rattle.bottom.specs.Cuts.{cut_live, cut_nodes};
 ghost use Rattle.rounds.specs.Rounds.{RoundLive, round_nodes};
-ghost use Rattle.board.specs.Turns.{SheetPasses, bare, check_board, checks, cut_board, cuts, round_board, round_room, rounds, seal_board, seals, is_loaded, is_sealed, list_answers, lists, load_board, load_room, loads, places};
+ghost use Rattle.board.specs.Turns.{SheetPasses, bare, check_board, checks, cut_board, cuts, round_board, round_room, rounds, seal_board, seals, is_loaded, is_sealed, list_answers, lists, load_board, loads, places};
 ghost use Rattle.board.specs.Standing.{TipTold};
 ghost use Rattle.board.specs.Law.{ListRight, RightNext};
 
 use crate::stage::{Board, Stage};
-use bottom::cut_tables;
+use bottom::{LEAST_LIVE, cut_tables, have_room};
 use checking::{check_tables, front};
 use lent::LentList;
 use nodes::{ReadStore, WriteStore};
@@ -19,16 +19,6 @@ use refusal::{Cause, Layer, Refusal};
 use rules::Stroke;
 use sheet::{LEAST_POINTS, Loop, Size};
 use walk::Found;
-
-/// The least length of the table of live nodes.
-pub const LEAST_LIVE: usize = 2050;
-
-// Whether the tables that a load is lent have room for every sheet.
-fn have_room(points: &[Point], edges: &[Edge], loops: &[Loop], live: &[u16]) -> bool
-    ensures { result ≡ load_room (length points.now) (length edges.now) (length loops.now) (length live.now) }
-{
-    live.len() >= LEAST_LIVE && sheet::have_room(points, edges, loops)
-}
 
 // Whether the tables that a round and a place are lent have room for every sheet.
 fn have_points(points: &[Point], live: &[u16]) -> bool
@@ -140,7 +130,7 @@ impl Board {
         ensures room { S.WriteStore.room store.new ≡ S.WriteStore.room store.old }
         ensures live { live.new ≡ cut_live (cuts self.old points.now edges.now loops.now (length live.old) (S.WriteStore.room store.old)) live.old }
     {
-        if !bottom::have_room(points, edges, loops, live) {
+        if !have_room(points, edges, loops, live) {
             return Err(Refusal::new(Cause::TableTooShort, Layer::Build, 0));
         }
         let Stage::Checked = self.stage else {

@@ -45,7 +45,9 @@ pub struct Sealed {
 
 /// A turn that was refused: the sheet as it was, and why.
 pub struct Refused<T> {
+    /// The sheet, as it was.
     pub sheet: T,
+    /// Why the turn was not made.
     pub refusal: Refusal,
 }
 

@@ -23,7 +23,7 @@ use Rattle.refusal.specs.Numbers.{refused}
 use Rattle.checking.proofs.Told.{fronted_all}
 use Rattle.bottom.specs.Bottom.{bottom_of, cut_loops}
 use Rattle.bottom.proofs.Rows.{loops_within}
-use Rattle.bottom.specs.Cuts.{Within, bottom_count, cut_room, fronts_cut, or_stuck, sheet_cut}
+use Rattle.bottom.specs.Cuts.{Within, bottom_count, build_room, fronts_cut, or_stuck, sheet_cut}
 
 -- of the fronts of tables that hold a sheet
 pub record Ready (z : Size) (ps fps : List Point) (es fes : List Edge) (ls fls : List Loop) (room : ℕ) : Type 0 where
@@ -39,7 +39,7 @@ all_unmap : {X Y : Type 0} (P : Y → Type 0) (f : X → Y) (xs : List X) → Al
 all_unmap P f [] h = All-nil (λ x. P (f x))
 all_unmap P f (x ∷ xs) h = All-cons (λ x. P (f x)) x xs (All-head P (f x) (map f xs) h) (all_unmap P f xs (All-tail P (f x) (map f xs) h))
 
-long_tables : (p e l room : ℕ) → cut_room p e l room ≡ true → (2050 ≤ room) × (roomy p e l ≡ true)
+long_tables : (p e l room : ℕ) → build_room p e l room ≡ true → (2050 ≤ room) × (roomy p e l ≡ true)
 long_tables p e l room h = grind (arith, nat_tests)
 
 short_row : (n : ℕ) (es : List Edge) (l : Loop) → n ≤ 1024 → LegalRing (n + 4) (ring_at es l) → length (loop_edges es l) ≤ 1028
@@ -51,7 +51,7 @@ short_row n es l few h =
 corners_fit : (rs : List Ring) (n : ℕ) → corners_in rs ≡ n → corners_in rs ≤ n + 4
 corners_fit rs n h = omega (arith, h)
 
-fronts_ready : (z : Size) (ps : List Point) (es : List Edge) (ls : List Loop) (room : ℕ) → cut_room (length ps) (length es) (length ls) room ≡ true
+fronts_ready : (z : Size) (ps : List Point) (es : List Edge) (ls : List Loop) (room : ℕ) → build_room (length ps) (length es) (length ls) room ≡ true
     → wrong_entry z ps es ls ≡ None → Ready z ps (take (z.inner + 4) ps) es (take (z.corners + 4) es) ls (take z.loops ls) room
 unfolding held_sheet bottom_of
 fronts_ready z ps es ls room long none =
@@ -83,6 +83,6 @@ fronts_ready z ps es ls room long none =
 
 pub ready : (z : Size) (ps fps : List Point) (es fes : List Edge) (ls fls : List Loop) (room a b n : ℕ) → fps ≡ take (a + 4) ps → a ≡ z.inner
     → fes ≡ take (b + 4) es → b ≡ z.corners → fls ≡ take n ls → n ≡ z.loops
-    → cut_room (length ps) (length es) (length ls) room ≡ true → wrong_entry z ps es ls ≡ None → Ready z ps fps es fes ls fls room
+    → build_room (length ps) (length es) (length ls) room ≡ true → wrong_entry z ps es ls ≡ None → Ready z ps fps es fes ls fls room
 ready z ps fps es fes ls fls room a b n p a' e b' l n' long none =
     rw (p, a', e, b', l, n') (fronts_ready z ps es ls room long none)

@@ -46,14 +46,14 @@ or_wrong (Some i) said = Err (refused OutOfRange Build i)
 unfoldable pub cut_said : Size → List Point → List Edge → List Loop → ℕ → Result (List Node) Refusal
 cut_said z ps es ls room = or_wrong (wrong_entry z ps es ls) (sheet_cut room (held_sheet z ps es ls))
 
--- the tables that a cut is lent have their least sizes: 2,050 live numbers, and those of points, edges and loops
-abbrev pub cut_room : (points edges loops live : ℕ) → Bool
-cut_room points edges loops live = cond (nat_le 2050 live) (roomy points edges loops) false
+-- the tables that a load and a cut are lent have their least sizes: 2,050 live numbers, and those of points, edges and loops
+abbrev pub build_room : (points edges loops live : ℕ) → Bool
+build_room points edges loops live = cond (nat_le 2050 live) (roomy points edges loops) false
 
 -- over any tables: one that is too short comes first
 abbrev pub tables_cut : Size → List Point → List Edge → List Loop → (live room : ℕ) → Result (List Node) Refusal
 tables_cut z ps es ls live room =
-    cond (cut_room (length ps) (length es) (length ls) live) (cut_said z ps es ls room) (Err (refused TableTooShort Build 0))
+    cond (build_room (length ps) (length es) (length ls) live) (cut_said z ps es ls room) (Err (refused TableTooShort Build 0))
 
 -- what is answered in place of the nodes: how many they are
 abbrev pub answered : Result (List Node) Refusal → Result ℕ Refusal

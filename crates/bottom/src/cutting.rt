@@ -8,7 +8,7 @@ ghost use Rattle.rules.specs.Rules.{triangles_in};
 ghost use Rattle.checking.specs.Entries.{wrong_entry as wrong_entry_of};
 ghost use Rattle.checking.specs.Held.{held_sheet, ring_at};
 ghost use Rattle.bottom.specs.Bottom.{bottom_of, cut_loops as cut_loops_of};
-ghost use Rattle.bottom.specs.Cuts.{Within, answered, cut_live, cut_nodes, cut_room, cut_said, filled_nodes, filled_said, fronts_cut, sheet_cut, tables_cut};
+ghost use Rattle.bottom.specs.Cuts.{Within, answered, build_room, cut_live, cut_nodes, cut_said, filled_nodes, filled_said, fronts_cut, sheet_cut, tables_cut};
 
 use crate::loops::cut_loops;
 use checking::{front, wrong_entry};
@@ -21,9 +21,9 @@ use sheet::{Loop, Size};
 /// The least length of the table of live nodes.
 pub const LEAST_LIVE: usize = 2050;
 
-/// Whether the tables that a cut is lent have room for every sheet.
+/// Whether the tables that a load and a cut are lent have room for every sheet.
 pub fn have_room(points: &[Point], edges: &[Edge], loops: &[Loop], live: &[u16]) -> bool
-    ensures { result ≡ cut_room (length points.now) (length edges.now) (length loops.now) (length live.now) }
+    ensures { result ≡ build_room (length points.now) (length edges.now) (length loops.now) (length live.now) }
 {
     live.len() >= LEAST_LIVE && sheet::have_room(points, edges, loops)
 }
@@ -104,7 +104,7 @@ fn cut_held<S: WriteStore>(
     live: &mut [u16],
     store: &mut S,
 ) -> Result<u16, Refusal>
-    requires room { cut_room (length points.now) (length edges.now) (length loops.now) (length live.old) ≡ true }
+    requires room { build_room (length points.now) (length edges.now) (length loops.now) (length live.old) ≡ true }
     requires held { wrong_entry_of size points.now edges.now loops.now ≡ Nothing }
     ensures said { result ≡ answered (sheet_cut (S.WriteStore.room store.old) (held_sheet size points.now edges.now loops.now)) }
     ensures nodes { S.ReadStore.nodes store.new ≡ cut_nodes (sheet_cut (S.WriteStore.room store.old) (held_sheet size points.now edges.now loops.now)) (S.ReadStore.nodes store.old) }

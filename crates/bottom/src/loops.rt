@@ -10,9 +10,9 @@ ghost use Rattle.bottom.specs.Bottom.{bottom_node as bottom_node_of, is_drawn as
 ghost use Rattle.bottom.specs.Cuts.{Within, adds, poured, stuck_or};
 ghost use Rattle.checking.specs.Held.{ring_at};
 
-use ears::{Corners, cut};
+use ears::cut;
 use nodes::{Node, WriteStore};
-use plane::{Edge, Point};
+use plane::{Corners, Edge, Point};
 use rules::loop_edges;
 use sheet::Loop;
 

@@ -17,7 +17,9 @@ pub trait Clash {
 /// The places of two elements that clash.
 #[derive(Clone, Copy, PartialEq, Eq, Debug)]
 pub struct ClashAt {
+    /// The place of the first element that clashes with an earlier one.
     pub later: usize,
+    /// The place of the earliest such.
     pub earlier: usize,
 }
 

@@ -1,5 +1,5 @@
 -- A desk at the start, and what a load takes of it.
-use Rattle.std.specs.Prelude.{◌≡◌, ℕ, List, length, Option, Result, vec_len}
+use Rattle.std.specs.Prelude.{◌≡◌, ℕ, List, length, replicate, Option, Result, vec_len}
 use Rattle.nodes.specs.declared.node.Node.{Node}
 use Rattle.refusal.specs.declared.Refusal.{Refusal}
 use Rattle.plane.specs.Points.{Spot}
@@ -10,14 +10,21 @@ use Rattle.board.specs.Turns.{bare, checks, cuts, lists, loads, rounds}
 use Rattle.desk.specs.declared.Desk.{Desk}
 use Rattle.desk.specs.declared.Lengths.{Lengths}
 
--- an empty Draft, over tables of these lengths
+-- an empty Draft, over tables of these lengths, of which each entry is zeros
 pub record IsFresh (l : Lengths) (d : Desk) : Type 0 where
   pub board : d.board ≡ bare
-  pub points : vec_len d.points ≡ l.points
-  pub edges : vec_len d.edges ≡ l.edges
-  pub strokes : vec_len d.strokes ≡ l.strokes
-  pub loops : vec_len d.loops ≡ l.loops
-  pub live : vec_len d.live ≡ l.live
+  pub points : d.points.items ≡ replicate l.points (record { x = 0; y = 0 })
+  pub edges : d.edges.items ≡ replicate l.edges (record { from = 0; to = 0 })
+  pub strokes : d.strokes.items ≡ replicate l.strokes (record { edge = record { from = 0; to = 0 }; start = record { x = 0; y = 0 }; end = record { x = 0; y = 0 } })
+  pub loops : d.loops.items ≡ replicate l.loops (record { numeral = 0; start = 0; corners = 0 })
+  pub live : d.live.items ≡ replicate l.live 0
+
+-- the tables of a sheet that was taken are as they were
+pub record TablesStay (old new : Desk) : Type 0 where
+  pub points : new.points.items ≡ old.points.items
+  pub edges : new.edges.items ≡ old.edges.items
+  pub loops : new.loops.items ≡ old.loops.items
+  pub strokes : new.strokes.items ≡ old.strokes.items
 
 -- what a check of the desk's tables answers
 abbrev pub desk_checks : Desk → Result (Unit {0}) Refusal

@@ -10,7 +10,7 @@ ghost use Rattle.rounds.specs.Rounds.{RoundLive, round_nodes};
 ghost use Rattle.board.specs.Standing.{TipTold};
 ghost use Rattle.board.specs.Law.{ListRight, RightNext};
 ghost use Rattle.board.specs.Turns.{check_board, cut_board, list_answers, load_board, places, round_board, seal_board, seals};
-ghost use Rattle.desk.specs.Desks.{IsFresh, desk_checks, desk_cuts, desk_lists, desk_loads, desk_rounds};
+ghost use Rattle.desk.specs.Desks.{IsFresh, TablesStay, desk_checks, desk_cuts, desk_lists, desk_loads, desk_rounds};
 
 use board::{Board, LEAST_LIVE};
 use checking::LEAST_STROKES;
@@ -25,10 +25,15 @@ use walk::Found;
 /// How many entries each table has.
 #[derive(Clone, Copy, PartialEq, Eq, Debug)]
 pub struct Lengths {
+    /// For the vertices.
     pub points: usize,
+    /// For the edge list.
     pub edges: usize,
+    /// For the edges of the sheet as segments, which a check keeps there.
     pub strokes: usize,
+    /// For the loops.
     pub loops: usize,
+    /// For the numbers of the live nodes.
     pub live: usize,
 }
 
@@ -44,16 +49,22 @@ pub const LEAST: Lengths = Lengths {
 /// A board, and the tables that it lends to its turns.
 #[derive(Drop)]
 pub struct Desk {
+    /// The board, which knows the sheet's stage and size.
     pub board: Board,
+    /// The corners of the sheet, and then its inner vertices.
     pub points: Vec<Point>,
+    /// The directed edges of all loops, and then the four outside edges.
     pub edges: Vec<Edge>,
+    /// What a check keeps while it is made.
     pub strokes: Vec<Stroke>,
+    /// The loops.
     pub loops: Vec<Loop>,
+    /// The numbers of the live nodes, ascending.
     pub live: Vec<u16>,
 }
 
 impl Desk {
-    /// An empty Draft, over tables of these lengths.
+    /// An empty Draft, over tables of these lengths, in which all is zeros.
     pub fn new(heap: Global, lengths: Lengths) -> Result<Desk, AllocError>
         ensures { IfOk result (IsFresh lengths) }
     {
@@ -108,10 +119,7 @@ impl Desk {
         ensures nodes { S.ReadStore.nodes store.new ≡ cut_nodes (desk_cuts self.old (S.WriteStore.room store.old)) (S.ReadStore.nodes store.old) }
         ensures room { S.WriteStore.room store.new ≡ S.WriteStore.room store.old }
         ensures live { self.new.live.items ≡ cut_live (desk_cuts self.old (S.WriteStore.room store.old)) self.old.live.items }
-        ensures points { self.new.points.items ≡ self.old.points.items }
-        ensures edges { self.new.edges.items ≡ self.old.edges.items }
-        ensures loops { self.new.loops.items ≡ self.old.loops.items }
-        ensures strokes { self.new.strokes.items ≡ self.old.strokes.items }
+        ensures tables { TablesStay self.old self.new }
     {
         let points = self.points.as_slice();
         let edges = self.edges.as_slice();
@@ -128,10 +136,7 @@ impl Desk {
         ensures room { S.WriteStore.room store.new ≡ S.WriteStore.room store.old }
         ensures live { RoundLive (desk_rounds self.old (S.ReadStore.nodes store.old) (S.WriteStore.room store.old)) self.old.live.items self.new.live.items }
         ensures table { length self.new.live.items ≡ length self.old.live.items }
-        ensures points { self.new.points.items ≡ self.old.points.items }
-        ensures edges { self.new.edges.items ≡ self.old.edges.items }
-        ensures loops { self.new.loops.items ≡ self.old.loops.items }
-        ensures strokes { self.new.strokes.items ≡ self.old.strokes.items }
+        ensures tables { TablesStay self.old self.new }
     {
         let points = self.points.as_slice();
         let live = self.live.as_mut_slice();
@@ -143,10 +148,7 @@ impl Desk {
         ensures said { result ≡ seals self.old.board self.old.live.items (S.nodes store.now) }
         ensures board { self.new.board ≡ seal_board (seals self.old.board self.old.live.items (S.nodes store.now)) self.old.board }
         ensures live { self.new.live.items ≡ self.old.live.items }
-        ensures points { self.new.points.items ≡ self.old.points.items }
-        ensures edges { self.new.edges.items ≡ self.old.edges.items }
-        ensures loops { self.new.loops.items ≡ self.old.loops.items }
-        ensures strokes { self.new.strokes.items ≡ self.old.strokes.items }
+        ensures tables { TablesStay self.old self.new }
     {
         let live = self.live.as_slice();
         self.board.seal(live, store)
@@ -159,10 +161,7 @@ impl Desk {
         ensures right { RightNext self.old.board self.old.points.items self.old.live.items (S.nodes store.now) (K.means tip.now ∷ []) (result ∷ []) }
         ensures board { self.new.board ≡ self.old.board }
         ensures live { self.new.live.items ≡ self.old.live.items }
-        ensures points { self.new.points.items ≡ self.old.points.items }
-        ensures edges { self.new.edges.items ≡ self.old.edges.items }
-        ensures loops { self.new.loops.items ≡ self.old.loops.items }
-        ensures strokes { self.new.strokes.items ≡ self.old.strokes.items }
+        ensures tables { TablesStay self.old self.new }
     {
         let points = self.points.as_slice();
         let live = self.live.as_slice();
@@ -181,10 +180,7 @@ impl Desk {
         ensures answers { answers.new ≡ list_answers (desk_lists self.old (S.nodes store.now) (map K.means tips.now) (length answers.old)) answers.old }
         ensures right { ListRight self.old.board self.old.points.items self.old.live.items (S.nodes store.now) (map K.means tips.now) answers.new result }
         ensures live { self.new.live.items ≡ self.old.live.items }
-        ensures points { self.new.points.items ≡ self.old.points.items }
-        ensures edges { self.new.edges.items ≡ self.old.edges.items }
-        ensures loops { self.new.loops.items ≡ self.old.loops.items }
-        ensures strokes { self.new.strokes.items ≡ self.old.strokes.items }
+        ensures tables { TablesStay self.old self.new }
     {
         let points = self.points.as_slice();
         let live = self.live.as_slice();

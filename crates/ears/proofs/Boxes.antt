@@ -9,7 +9,7 @@ use Rattle.plane.specs.Points.{GridPoint, Spot, area, det, grid_point, place_of,
 use Rattle.plane.proofs.Determinants.{along_width, identities}
 use Rattle.plane.proofs.Signs.{lin, times-++, times--+, times->>, times-<>}
 use Rattle.tiling.specs.Triangles.{Triangle}
-use Rattle.ears.specs.declared.Corners.{Corners}
+use Rattle.plane.specs.declared.Corners.{Corners}
 use Rattle.ears.specs.declared.shape.Shape.{Shape}
 use Rattle.ears.specs.Cutting.{triangle_of}
 use Rattle.ears.specs.Ears.{blocks, has_corner, is_ear, is_left, triangle_at}

@@ -1,12 +1,12 @@
 -- The steps of a loop that cuts a polygon: the corners that are left stand in front of one list, the triangles that are made in front of another.
 use Rattle.std.proofs.Common.{◌≡◌, ℕ, suc, ◌+◌, ◌-◌, ◌<◌, ◌≤◌, List, [], ◌∷◌, ◌++◌, length, map, take, drop, set, remove, Option, Some, None, option_map, option_and_then, sym, refl, ap, ap₂, ◌∙◌, append_assoc, ne_eqb, arith}
 use Rattle.std.specs.List.{copy_within}
-use Rattle.std.proofs.lemmas.List.{length-drop, length-take, map_push, take-append-le, take_all, take_at, take_more_set}
+use Rattle.std.proofs.lemmas.List.{drop-set-lt, length-drop, length-take, map_push, take-append-le, take_all, take_at, take_more_set}
 use Rattle.std.proofs.lemmas.Bool.{and_left, cond-false}
 use Rattle.std.proofs.lemmas.List.Edits.{length-remove}
 use Rattle.plane.specs.Points.{GridPoint}
 use Rattle.tiling.specs.Triangles.{Triangle}
-use Rattle.ears.specs.declared.Corners.{Corners}
+use Rattle.plane.specs.declared.Corners.{Corners}
 use Rattle.ears.specs.Cutting.{EarCutOff, LastCut, front_of, ear_off, triangle_of}
 use Rattle.ears.specs.Ears.{cut_by, cut_of, first_ear, last_cut, triangle_at}
 
@@ -58,16 +58,17 @@ module _ (at : ℕ → GridPoint) where
       ap (λ n. cut_by at n cs) none ∙ cond-false _ _ _ (and_left _ _ (ne_eqb (length cs) 3 (λ e. omega arith)))
 
   -- the cut of all corners is what is made so far, and then the cut of those that are left
-  pub record Sofar (old ring : List ℕ) (table : List Corners) (made : ℕ) : Type 0 where
+  pub record Sofar (old ring : List ℕ) (before table : List Corners) (made : ℕ) : Type 0 where
     pub same : cut_of at old ≡ ahead (map triangle_of (take made table)) (cut_by at (length old - 3 - made) (take (length old - made) ring))
+    pub behind : drop (length old - 2) table ≡ drop (length old - 2) before
 
-  pub start : (old : List ℕ) (table : List Corners) → Sofar old old table 0
+  pub start : (old : List ℕ) (table : List Corners) → Sofar old old table table 0
   unfolding cut_of
   start old table =
       let n : length old - 3 ≡ length old - 3 - 0 = omega arith in
-      record { same = sym (ahead_none _) ∙ ap₂ (λ n l. ahead [] (cut_by at n l)) n (sym (take_all (length old - 0) old (omega arith))) }
+      record { same = sym (ahead_none _) ∙ ap₂ (λ n l. ahead [] (cut_by at n l)) n (sym (take_all (length old - 0) old (omega arith))); behind = refl }
 
-  module _ (old ring : List ℕ) (table : List Corners) (made : ℕ) (sofar : Sofar old ring table made) (long : length ring ≡ length old) where
+  module _ (old ring : List ℕ) (before table : List Corners) (made : ℕ) (sofar : Sofar old ring before table made) (long : length ring ≡ length old) where
     abbrev front : List ℕ
     front = take (length old - made) ring
 
@@ -75,7 +76,7 @@ module _ (at : ℕ → GridPoint) where
     front_long = omega (arith, length-take (length old - made) ring)
 
     pub next : (new : List ℕ) (t : Corners) → made < length old - 3 → made < length table → length new ≡ length front → EarCutOff at front new (Some t)
-        → Sofar old (new ++ drop (length old - made) ring) (set table made t) (made + 1)
+        → Sofar old (new ++ drop (length old - made) ring) before (set table made t) (made + 1)
     next new t inside room whole cut =
         let n : ℕ = length old - 3 - (made + 1) in
         let steps : length old - 3 - made ≡ suc n = omega arith in
@@ -89,6 +90,7 @@ module _ (at : ℕ → GridPoint) where
         record {
           same = sofar.same ∙ ap (ahead (map triangle_of (take made table))) one ∙ ahead_more (map triangle_of (take made table)) (triangle_of t) _
               ∙ ap₂ (λ ts l. ahead ts (cut_by at n l)) put left;
+          behind = drop-set-lt (length old - 2) table made t (omega (arith, inside)) ∙ sofar.behind;
         }
 
     pub stuck : (r : Option ℕ) → made < length old - 3 → EarCutOff at front ring None → r ≡ None → cut_of at old ≡ front_of table r
@@ -121,5 +123,12 @@ module _ (at : ℕ → GridPoint) where
         ap (λ k. take k (set table (length old - 3) t)) (sym count) ∙ take_more_set table (length old - 3) t at_last in
         rest all several ∙ ap₂ (λ k o. ahead (map triangle_of (take k table)) o) all cut ∙ ap Some (sym (ap (map triangle_of) put ∙ map_push triangle_of (take (length old - 3) table) t))
 
+    -- what stands behind the triangles stays, also when the last one is made
+    pub stays : drop (length old - 2) table ≡ drop (length old - 2) before
+    stays = sofar.behind
+
+    pub stays_last : (t : Corners) → 3 ≤ length old → drop (length old - 2) (set table (length old - 3) t) ≡ drop (length old - 2) before
+    stays_last t several = drop-set-lt (length old - 2) table (length old - 3) t (omega (arith, several)) ∙ sofar.behind
+
 -- for the loop that cuts a polygon
-pub ruleset cutting = (short, next, stuck, bent, ended)
+pub ruleset cutting = (short, next, stuck, bent, ended, stays, stays_last)

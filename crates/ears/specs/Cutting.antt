@@ -8,7 +8,7 @@ use Rattle.refusal.specs.declared.Cause.{Cause}
 use Rattle.refusal.specs.declared.Cause.TheVariants.{Stuck, TableTooShort}
 use Rattle.tiling.specs.Cuts.{Cut}
 use Rattle.tiling.specs.Triangles.{AllLeftward, Triangle, triangle}
-use Rattle.ears.specs.declared.Corners.{Corners}
+use Rattle.plane.specs.declared.Corners.{Corners}
 use Rattle.ears.specs.Ears.{cut_of, first_ear, last_cut, triangle_at}
 
 -- the triangles are a cut of the polygon, each turns left, there are two fewer than corners, and their corners are its corners

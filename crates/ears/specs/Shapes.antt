@@ -2,7 +2,7 @@
 use Rattle.std.specs.Prelude.{ℕ, Bool, not, ◌&&◌, List, max, min, pos, int_le, int_lt, nat_le}
 use Rattle.plane.specs.declared.Point.{Point}
 use Rattle.plane.specs.Points.{area, det, grid_point, spot_at, vertex_of}
-use Rattle.ears.specs.declared.Corners.{Corners}
+use Rattle.plane.specs.declared.Corners.{Corners}
 use Rattle.ears.specs.declared.shape.Shape.{Shape}
 use Rattle.ears.specs.Cutting.{triangle_of}
 use Rattle.ears.specs.Ears.{has_corner}

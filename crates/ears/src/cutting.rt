@@ -1,20 +1,22 @@
 //! Cutting a polygon: ear after ear, and then the last three corners.
-ghost use Rattle.std.specs.Prelude.{◌≡◌, ◌-◌, ◌<◌, ◌≤◌, IfOk, IfSome, Some, length, map, remove, take};
+ghost use Rattle.std.specs.Prelude.{◌≡◌, ◌-◌, ◌<◌, ◌≤◌, IfOk, IfSome, Some, drop, length, map, remove, take};
 ghost use Rattle.plane.specs.Points.{place_of};
 ghost use Rattle.ears.specs.Cutting.{EarCutOff, LastCut, cut_said, front_of, triangle_of};
 ghost use Rattle.ears.specs.Ears.{cut_of};
 
-use crate::Corners;
 use crate::ears::{corners_at, first_ear};
 use crate::shape::Shape;
-use plane::Point;
+use plane::{Corners, Point};
 use refusal::Cause;
 
 /// Cuts a polygon into triangles, which go into the front of `triangles` in the order in which they are made, and answers how many
-/// there are. Refused where there is no room for them, or where the polygon is stuck. `ring` has its corners, and is used up.
+/// there are. Refused where there is no room for them, and then all stays as it was, or where the polygon is stuck. `ring` has its corners,
+/// and is used up; what stands behind the triangles stays.
 pub fn cut(points: &[Point], ring: &mut [u16], triangles: &mut [Corners]) -> Result<usize, Cause>
     ensures said { result ≡ cut_said (length triangles.old) ring.old (cut_of (place_of points.now) ring.old) }
     ensures cut { IfOk result (λ n. cut_of (place_of points.now) ring.old ≡ Some (map triangle_of (take n triangles.new))) }
+    ensures rest { drop (length ring.old - 2) triangles.new ≡ drop (length ring.old - 2) triangles.old }
+    ensures short { length triangles.old < length ring.old - 2 → (triangles.new ≡ triangles.old) × (ring.new ≡ ring.old) }
 {
     if triangles.len() < ring.len().saturating_sub(2) {
         return Err(Cause::TableTooShort);
@@ -29,6 +31,7 @@ fn cut_all(points: &[Point], ring: &mut [u16], triangles: &mut [Corners]) -> Opt
     requires { length ring.old - 2 ≤ length triangles.old }
     ensures cut { cut_of (place_of points.now) ring.old ≡ front_of triangles.new result }
     ensures within { IfSome result (λ n. n ≤ length triangles.new) }
+    ensures rest { drop (length ring.old - 2) triangles.new ≡ drop (length ring.old - 2) triangles.old }
 {
     let count = ring.len();
     if count < 3 {

@@ -6,9 +6,8 @@ ghost use Rattle.ears.specs.Cutting.{triangle_of};
 ghost use Rattle.ears.specs.Ears.{after as after_of, before as before_of, first_ear as first_ear_of, is_ear as is_ear_of, triangle_at};
 ghost use Rattle.ears.specs.Shapes.{blocks_in_box};
 
-use crate::Corners;
 use crate::shape::Shape;
-use plane::Point;
+use plane::{Corners, Point};
 
 // The lowest position that is an ear.
 #[tactic(auto, using(crate::proofs::Searches::found))]

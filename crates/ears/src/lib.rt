@@ -10,14 +10,6 @@ mod shape;
 
 pub use cutting::cut;
 
-/// A triangle, by the numbers of its corners.
-#[derive(Clone, Copy, PartialEq, Eq, Debug, Default)]
-pub struct Corners {
-    pub a: u16,
-    pub b: u16,
-    pub c: u16,
-}
-
 /// Wherever a polygon can be cut at its ears, the triangles are a cut of it, and each turns left.
 pub fn cut_is_cut()
     ensures { CutIsCut }

@@ -5,8 +5,7 @@ ghost use Rattle.ears.specs.Cutting.{triangle_of};
 ghost use Rattle.ears.specs.Ears.{has_corner};
 ghost use Rattle.ears.specs.Shapes.{blocks_in_box, greatest as greatest_of, holds as holds_of, in_box as in_box_of, in_range as in_range_of, least as least_of, not_right, shape_of, turns_left};
 
-use crate::Corners;
-use plane::{Kernel, Point, Side, WholeTip, place};
+use plane::{Corners, Kernel, Point, Side, WholeTip, place};
 
 /// A triangle with where its corners are, and the box that they span.
 #[derive(Clone, Copy)]

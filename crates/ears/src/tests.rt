@@ -1,5 +1,5 @@
-use crate::{Corners, cut};
-use plane::Point;
+use crate::cut;
+use plane::{Corners, Point};
 use refusal::Cause;
 use std::process::Abort;
 use std::test::Fail;

@@ -1,15 +1,15 @@
 -- The fan, one entry after another.
-use Rattle.std.proofs.Common.{◌≡◌, ℕ, zero, suc, ◌+◌, ◌-◌, ◌<◌, ◌≤◌, ◌==◌, Bool, true, false, cond, List, [], ◌∷◌, ◌++◌, length, map, take, set, append_assoc, Some, None, Option, refl, sym, ap, ◌∙◌, subst, inl, inr, arith}
+use Rattle.std.proofs.Common.{◌≡◌, ℕ, zero, suc, ◌+◌, ◌-◌, ◌<◌, ◌≤◌, ◌==◌, Bool, true, false, cond, List, [], ◌∷◌, ◌++◌, length, map, take, drop, set, append_assoc, Some, None, Option, refl, sym, ap, ◌∙◌, subst, inl, inr, arith}
 use Rattle.std.specs.Option.{option_map}
 use Rattle.std.proofs.lemmas.Bool.Decides.{nat_tests}
-use Rattle.std.proofs.lemmas.List.{length-set, length-take-le, take_more_set}
+use Rattle.std.proofs.lemmas.List.{drop-set-lt, length-set, length-take-le, take_more_set}
 use Rattle.std.proofs.lemmas.List.Quantifiers.{position-Some}
 use Rattle.std.proofs.lemmas.Option.{none-some, same_Some}
 use Rattle.plane.specs.declared.Edge.{Edge}
 use Rattle.plane.specs.Edges.{In, edge, links}
 use Rattle.tiling.specs.Triangles.{fan, triangle}
 use Rattle.fans.specs.declared.around.Turned.{Turned}
-use Rattle.fans.specs.declared.corners.Corners.{Corners}
+use Rattle.plane.specs.declared.Corners.{Corners}
 use Rattle.fans.specs.Around.{turn}
 use Rattle.fans.specs.Fans.{FanCloses, TurnedIsNode, entry, fan_from, fan_of, goes_on, onto, opening, ring_of, triangles_of, turns_of}
 
@@ -26,15 +26,17 @@ ahead_more : (done : List Turned) (t : Turned) (fan : Option (List Turned)) → 
 ahead_more done t None = refl
 ahead_more done t (Some ts) = ap Some (sym (append_assoc done (t ∷ []) ts))
 
-pub record Followed (ts links : List Turned) (i at : ℕ) : Type 0 where
+pub record Followed (ts before links : List Turned) (i at : ℕ) : Type 0 where
   pub inside : i < length ts → at < length ts
   pub same : fan_of ts ≡ ahead (take i links) (fan_from ts (length ts - i) at)
   pub room : length ts ≤ length links
+  pub behind : (k : ℕ) → i ≤ k → drop k links ≡ drop k before
 
-pub followed_none : (ts links : List Turned) → length ts ≤ length links → Followed ts links 0 0
-followed_none ts links h = record { inside = λ l. l; same = sym (ahead_none _) ∙ ap (λ n. ahead [] (fan_from ts n 0)) (omega arith); room = h }
+pub followed_none : (ts links : List Turned) → length ts ≤ length links → Followed ts links links 0 0
+followed_none ts links h =
+    record { inside = λ l. l; same = sym (ahead_none _) ∙ ap (λ n. ahead [] (fan_from ts n 0)) (omega arith); room = h; behind = λ k l. refl }
 
-module _ (ts links : List Turned) (i at : ℕ) (f : Followed ts links i at) (more : i < length ts) where
+module _ (ts before links : List Turned) (i at : ℕ) (f : Followed ts before links i at) (more : i < length ts) where
   on : fan_of ts ≡ ahead (take i links) (goes_on (entry ts at) (fan_from ts (length ts - (i + 1))) (opening ts (entry ts at).last))
   unfolding fan_from
   on = let n : length ts - i ≡ suc (length ts - (i + 1)) = omega arith in f.same ∙ ap (λ n. ahead (take i links) (fan_from ts n at)) n
@@ -49,7 +51,11 @@ module _ (ts links : List Turned) (i at : ℕ) (f : Followed ts links i at) (mor
       on ∙ ap (λ o. ahead (take i links) (goes_on (entry ts at) (fan_from ts (length ts - (i + 1))) o)) (sym h ∙ ap Some z)
       ∙ ap Some (sym (take_more_set links i (entry ts at) inside))
 
-  pub followed_more : (j : ℕ) → Some j ≡ opening ts (entry ts at).last → (j ≡ 0 → ⊥) → Followed ts (set links i (entry ts at)) (i + 1) j
+  -- what stands behind stays, when an entry more is written
+  pub followed_rest : (k : ℕ) → i < k → drop k (set links i (entry ts at)) ≡ drop k before
+  followed_rest k l = drop-set-lt k links i (entry ts at) l ∙ f.behind k (omega (arith, l))
+
+  pub followed_more : (j : ℕ) → Some j ≡ opening ts (entry ts at).last → (j ≡ 0 → ⊥) → Followed ts before (set links i (entry ts at)) (i + 1) j
   followed_more j h n =
       let room = f.room in
       let inside : i < length links = omega arith in
@@ -62,11 +68,12 @@ module _ (ts links : List Turned) (i at : ℕ) (f : Followed ts links i at) (mor
             ∙ ahead_more (take i links) (entry ts at) _
             ∙ ap (λ l. ahead l (fan_from ts (length ts - (i + 1)) j)) (sym (take_more_set links i (entry ts at) inside));
         room = rw length-set room;
+        behind = λ k l. followed_rest k (omega (arith, l));
       }
 
-pub followed_all : (ts links : List Turned) (i at : ℕ) → Followed ts links i at → length ts ≤ i → fan_of ts ≡ None
+pub followed_all : (ts before links : List Turned) (i at : ℕ) → Followed ts before links i at → length ts ≤ i → fan_of ts ≡ None
 unfolding fan_from
-followed_all ts links i at f h = let z : length ts - i ≡ 0 = omega arith in f.same ∙ ap (λ n. ahead (take i links) (fan_from ts n at)) z
+followed_all ts before links i at f h = let z : length ts - i ≡ 0 = omega arith in f.same ∙ ap (λ n. ahead (take i links) (fan_from ts n at)) z
 
 pub written : (links : List Turned) (i : ℕ) (t : Turned) → i < length links → length (take (i + 1) (set links i t)) ≡ i + 1
 written links i t h = length-take-le (i + 1) (set links i t) (rw length-set (omega arith))

@@ -15,7 +15,7 @@ use Rattle.std.proofs.lemmas.Map.Steps.{length-le_from_distinct_below}
 use Rattle.fans.specs.declared.around.Turned.{Turned}
 use Rattle.fans.specs.Around.{around, nodes_of, turn}
 use Rattle.fans.specs.Fans.{WholeFanHasAll, WholeFanHasLive, entry}
-use Rattle.fans.proofs.Gathering.{around_tells}
+use Rattle.fans.proofs.Tallies.{around_tells}
 use Rattle.fans.proofs.Fans.{IsWay, opens, way_of}
 
 -- ---- the places differ

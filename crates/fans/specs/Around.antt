@@ -1,15 +1,15 @@
 -- The live nodes around a vertex, and its degree.
-use Rattle.std.specs.Prelude.{◌≡◌, ℕ, zero, suc, ◌+◌, ◌<◌, ◌≤◌, Bool, cond, ◌==◌, ◌||◌, min, List, [], ◌∷◌, length, map, nat_lt, slice_index_or, Ok, Err, Result, Some, None, Option, is_some}
+use Rattle.std.specs.Prelude.{◌≡◌, ℕ, zero, suc, ◌+◌, Bool, cond, ◌==◌, ◌||◌, min, List, [], ◌∷◌, length, map, nat_lt, slice_index_or, Ok, Err, Result, Some, None, Option, is_some}
 use Rattle.std.specs.List.{All, filter, filter_map}
 use Rattle.std.specs.Option.{option_and_then}
 use Rattle.nodes.specs.declared.node.Node.{Node}
 use Rattle.nodes.specs.Nodes.{blank}
-use Rattle.refusal.specs.declared.Cause.TheVariants.{OutOfRange, TableTooShort}
-use Rattle.refusal.specs.declared.Layer.TheVariants.{Build, Store}
+use Rattle.refusal.specs.declared.Cause.TheVariants.{OutOfRange}
+use Rattle.refusal.specs.declared.Layer.TheVariants.{Store}
 use Rattle.refusal.specs.declared.Refusal.{Refusal}
 use Rattle.refusal.specs.Numbers.{refused}
 use Rattle.fans.specs.declared.around.Turned.{Turned}
-use Rattle.fans.specs.declared.corners.Corners.{Corners}
+use Rattle.plane.specs.declared.Corners.{Corners}
 
 abbrev pub turn : ℕ → ℕ → ℕ → Turned
 turn k p q = record { node = k; next = p; last = q }
@@ -67,43 +67,14 @@ abbrev pub or_refused : {X : Type 0} → ℕ → Option X → Result X Refusal
 or_refused k (Some x) = Ok x
 or_refused k None = Err (refused OutOfRange Store k)
 
--- the corners of node k, and the node turned
+-- the corners of node k
 abbrev pub corners_said : List Node → ℕ → Result Corners Refusal
 corners_said nodes k = or_refused k (corners_at nodes k)
-
-abbrev pub turned_said : List Node → ℕ → ℕ → Result (Option Turned) Refusal
-turned_said nodes v k = cond (nat_lt k (length nodes)) (Ok (turned_at nodes v k)) (Err (refused OutOfRange Store k))
 
 -- the first live number that is no node is refused
 unfoldable pub live_said : List Node → List ℕ → Result (Unit {0}) Refusal
 live_said nodes [] = Ok tt
 live_said nodes (k ∷ live) = cond (nat_lt k (length nodes)) (live_said nodes live) (Err (refused OutOfRange Store k))
-
--- one live node after another, where `count` entries stand in a table with room for so many: a number that is no node is refused, and so
--- is a node around v for which there is no room
-abbrev pub gather_next : (room count : ℕ) → (ℕ → Result ℕ Refusal) → Result (Option Turned) Refusal → Result ℕ Refusal
-gather_next room count rest (Ok (Some t)) = cond (nat_lt count room) (rest (count + 1)) (Err (refused TableTooShort Build 0))
-gather_next room count rest (Ok None) = rest count
-gather_next room count rest (Err e) = Err e
-
-unfoldable pub gather_from : List Node → (v room count : ℕ) → List ℕ → Result ℕ Refusal
-gather_from nodes v room count [] = Ok count
-gather_from nodes v room count (k ∷ live) = gather_next room count (λ n. gather_from nodes v room n live) (turned_said nodes v k)
-
--- how many entries are gathered, or the first refusal in the order of the live nodes
-abbrev pub gather_said : List Node → List ℕ → (v room : ℕ) → Result ℕ Refusal
-gather_said nodes live v room = gather_from nodes v room 0 live
-
--- every live number is one of a node
-abbrev pub AllHeld : List Node → List ℕ → Type 0
-AllHeld nodes live = All (λ k. k < length nodes) live
-
--- then none is refused, and where there is room, as many are gathered as the degree says
-abbrev pub GatherTells : Type 0
-GatherTells =
-    (nodes : List Node) (live : List ℕ) → AllHeld nodes live
-    → (live_said nodes live ≡ Ok tt)
-    × ((v room : ℕ) → degree nodes live v ≤ room → gather_said nodes live v room ≡ Ok (degree nodes live v))
 
 -- the entries around v are of the live nodes that have corner v, in their order, and each is as its node turns
 abbrev pub AroundTells : Type 0

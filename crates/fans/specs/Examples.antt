@@ -1,10 +1,7 @@
 -- Worked examples, computed from the definitions: a fan that is whole, one that is broken, and ones that come back early.
-use Rattle.std.specs.Prelude.{◌≡◌, ℕ, false, List, [], ◌∷◌, Ok, Err, Some, None}
+use Rattle.std.specs.Prelude.{◌≡◌, ℕ, false, List, [], ◌∷◌, Some, None}
 use Rattle.nodes.specs.declared.node.Node.{Node}
-use Rattle.refusal.specs.declared.Cause.TheVariants.{OutOfRange, TableTooShort}
-use Rattle.refusal.specs.declared.Layer.TheVariants.{Build, Store}
-use Rattle.refusal.specs.Numbers.{refused}
-use Rattle.fans.specs.Around.{around, degree, gather_said, turn}
+use Rattle.fans.specs.Around.{around, degree, turn}
 use Rattle.fans.specs.Fans.{fan_of, is_whole}
 
 abbrev node : ℕ → ℕ → ℕ → Node
@@ -44,9 +41,3 @@ pub record FanExamples : Type 0 where
   pub none_around : fan_of (around wheel wheel_live 10) ≡ None
   -- a node that has the vertex twice counts once
   pub counts_once : degree parted (4 ∷ []) 9 ≡ 1
-  -- what is refused, in the order of the live nodes
-  pub gathered : gather_said wheel wheel_live 9 8 ≡ Ok 8
-  pub no_room : gather_said wheel wheel_live 9 7 ≡ Err (refused TableTooShort Build 0)
-  pub no_node : gather_said wheel (0 ∷ 9 ∷ []) 9 8 ≡ Err (refused OutOfRange Store 9)
-  pub room_first : gather_said wheel (0 ∷ 9 ∷ []) 9 0 ≡ Err (refused TableTooShort Build 0)
-  pub node_first : gather_said wheel (9 ∷ 0 ∷ []) 9 0 ≡ Err (refused OutOfRange Store 9)

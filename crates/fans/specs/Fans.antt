@@ -6,7 +6,7 @@ use Rattle.plane.specs.Edges.{In}
 use Rattle.tiling.specs.Triangles.{Triangle, fan, triangle}
 use Rattle.nodes.specs.declared.node.Node.{Node}
 use Rattle.fans.specs.declared.around.Turned.{Turned}
-use Rattle.fans.specs.declared.corners.Corners.{Corners}
+use Rattle.plane.specs.declared.Corners.{Corners}
 use Rattle.fans.specs.Around.{around, live_around, nodes_of, turn, turned}
 
 abbrev pub entry : List Turned → ℕ → Turned

@@ -1,21 +1,11 @@
 //! The corners of a node.
-ghost use Rattle.std.specs.Prelude.{◌≡◌};
-ghost use Rattle.fans.specs.Around.{corners_said};
+ghost use Rattle.std.specs.Prelude.{◌≡◌, slice_index_or};
+ghost use Rattle.fans.specs.Around.{corners_of, corners_said};
+ghost use Rattle.nodes.specs.Nodes.{blank};
 
 use nodes::ReadStore;
+use plane::Corners;
 use refusal::Refusal;
-
-/// The corners of a node, counterclockwise.
-// Not a `Node`: of its fourteen numbers a fan wants these three.
-#[derive(Clone, Copy, PartialEq, Eq, Debug, Default)]
-pub struct Corners {
-    /// The first corner's vertex.
-    pub a: u16,
-    /// The second corner's vertex.
-    pub b: u16,
-    /// The third corner's vertex.
-    pub c: u16,
-}
 
 // The corners of node `k`, or the store's refusal.
 pub(crate) fn read_corners<S: ReadStore>(store: &S, k: u16) -> Result<Corners, Refusal>
@@ -26,4 +16,12 @@ pub(crate) fn read_corners<S: ReadStore>(store: &S, k: u16) -> Result<Corners, R
     let b = store.number(k, 1)?;
     let c = store.number(k, 2)?;
     Ok(Corners { a, b, c })
+}
+
+/// The corners of node `k`, each 0 where there is no such node.
+#[tactic(auto, using(crate::proofs::Tallies::corners_or_none))]
+pub fn corners_at<S: ReadStore>(store: &S, k: u16) -> Corners
+    ensures { result ≡ corners_of (slice_index_or (S.nodes store.now) k blank) }
+{
+    read_corners(store, k).unwrap_or_default()
 }

@@ -2,8 +2,9 @@
 ghost use Rattle.std.specs.Prelude.{◌≡◌, ◌==◌, ℕ, ◌<◌, OnOk, length, slice_index, min};
 ghost use Rattle.fans.specs.Around.{degree as degree_of, is_corner, live_said, raised};
 
-use crate::corners::{Corners, read_corners};
+use crate::corners::read_corners;
 use nodes::ReadStore;
+use plane::Corners;
 use refusal::Refusal;
 
 // Adds one at a vertex, up to the largest number; a vertex past the table is passed over.

@@ -1,7 +1,7 @@
 //! The live nodes around a vertex: how many they are, and the fan that they make.
 #![tactic(auto)]
 
-ghost use Rattle.fans.specs.Around.{AroundTells, GatherTells};
+ghost use Rattle.fans.specs.Around.{AroundTells};
 ghost use Rattle.fans.specs.Examples.{FanExamples};
 ghost use Rattle.fans.specs.Fans.{FanCloses, TurnedIsNode, WholeFanHasAll, WholeFanHasLive};
 
@@ -10,15 +10,10 @@ mod corners;
 mod counts;
 mod links;
 
-pub use around::{Turned, gather, turn};
-pub use corners::Corners;
+pub use around::{Turned, turn};
+pub use corners::corners_at;
 pub use counts::degrees;
 pub use links::fan;
-
-/// Where every live number is one of a node, none is refused, and where there is room, as many are gathered as the degree says.
-pub fn gather_tells_stands()
-    ensures { GatherTells }
-{}
 
 /// The entries around a vertex are of the live nodes that have it as a corner, each as its node turns.
 pub fn around_tells_stands()

@@ -1,5 +1,6 @@
-use crate::{Turned, degrees, fan, gather};
+use crate::{Turned, corners_at, degrees, fan, turn};
 use nodes::{BlockStore, Node, ReadStore, SliceStore, WriteStore};
+use plane::Corners;
 use refusal::{Cause, Layer, Refusal};
 use std::process::Abort;
 use std::test::Fail;
@@ -33,10 +34,25 @@ fn fill<S: WriteStore>(store: &mut S) -> Result<(), Fail> {
 
 const LIVE: [u16; 9] = [0, 1, 2, 3, 4, 5, 6, 7, 8];
 
+// Puts the nodes among these that have corner `vertex` into `found`, each as it turns there, and answers how many they are.
+fn gather<S: ReadStore>(store: &S, live: &[u16], vertex: u16, found: &mut [Turned]) -> usize {
+    let mut count: usize = 0;
+    for k in live {
+        let Some(turned) = turn(vertex, *k, corners_at(store, *k)) else {
+            continue;
+        };
+        if let Some(entry) = found.get_mut(count) {
+            *entry = turned;
+        }
+        count = count.saturating_add(1);
+    }
+    count
+}
+
 // The fan of vertex 9 goes round once.
 fn goes_round<S: ReadStore>(rt: &impl Abort, store: &S) -> Result<(), Fail> {
     let mut found = [Turned::default(); 8];
-    assert_eq!(rt; gather(store, &LIVE, 9, &mut found)?, 8);
+    assert_eq!(rt; gather(store, &LIVE, 9, &mut found), 8);
     assert_eq!(rt; found[1], turned(1, 3, 4));
     let mut links = [Turned::default(); 10];
     assert_eq!(rt; fan(&found, &mut links), Some(8));
@@ -53,24 +69,21 @@ fn goes_round<S: ReadStore>(rt: &impl Abort, store: &S) -> Result<(), Fail> {
 fn is_broken<S: ReadStore>(rt: &impl Abort, store: &S) -> Result<(), Fail> {
     let mut found = [Turned::default(); 8];
     let live = [0, 1, 3, 4, 5, 7, 8];
-    assert_eq!(rt; gather(store, &live, 9, &mut found)?, 7);
+    assert_eq!(rt; gather(store, &live, 9, &mut found), 7);
     let mut links = [Turned::default(); 8];
     assert_eq!(rt; fan(&found[..7], &mut links), None);
-    assert_eq!(rt; gather(store, &live, 10, &mut found)?, 0);
+    assert_eq!(rt; gather(store, &live, 10, &mut found), 0);
     assert_eq!(rt; fan(&found[..0], &mut links), None);
     Ok(())
 }
 
-// What there is no room for is refused, and so is a number that is no node, whichever comes first.
+// A number that is no node is refused, and has no corners.
 fn refuses<S: ReadStore>(rt: &impl Abort, store: &S) {
-    let short = Refusal::new(Cause::TableTooShort, Layer::Build, 0);
     let past = Refusal::new(Cause::OutOfRange, Layer::Store, 9);
-    let mut found = [Turned::default(); 7];
-    assert_eq!(rt; gather(store, &LIVE, 9, &mut found), Err(short));
-    assert_eq!(rt; gather(store, &[0, 9], 9, &mut found), Err(past));
-    assert_eq!(rt; gather(store, &[0, 9], 9, &mut []), Err(short));
-    assert_eq!(rt; gather(store, &[9, 0], 9, &mut []), Err(past));
     assert_eq!(rt; degrees(store, &[0, 9], &mut [0; 4]), Err(past));
+    assert_eq!(rt; degrees(store, &[9, 10], &mut []), Err(past));
+    assert_eq!(rt; corners_at(store, 9), Corners::default());
+    assert_eq!(rt; corners_at(store, 3), Corners { a: 2, b: 3, c: 9 });
 }
 
 // Vertices past the table are passed over.
@@ -112,7 +125,7 @@ fn a_corner_that_comes_twice_counts_once(rt: HostRuntime) -> Result<(), Fail> {
     degrees(&store, &[0, 1], &mut degree)?;
     assert_eq!(&rt; degree, [0, 2, 2]);
     let mut found = [Turned::default(); 2];
-    assert_eq!(&rt; gather(&store, &[0, 1], 1, &mut found)?, 2);
+    assert_eq!(&rt; gather(&store, &[0, 1], 1, &mut found), 2);
     assert_eq!(&rt; found, [turned(0, 1, 2), turned(1, 2, 2)]);
     Ok(())
 }

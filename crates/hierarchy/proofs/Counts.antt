@@ -6,7 +6,7 @@ use Rattle.plane.specs.Edges.{In}
 use Rattle.nodes.specs.declared.node.Node.{Node}
 use Rattle.fans.specs.declared.around.Turned.{Turned}
 use Rattle.fans.specs.Around.{around, degree, live_around, turned_at}
-use Rattle.fans.proofs.Gathering.{around_tells}
+use Rattle.fans.proofs.Tallies.{around_tells}
 use Rattle.hierarchy.proofs.Elements.{filter_in, in_filter, place_in}
 
 -- of so many numbers from v on, how many pass a test

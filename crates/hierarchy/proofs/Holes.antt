@@ -23,7 +23,7 @@ use Rattle.fans.specs.declared.around.Turned.{Turned}
 use Rattle.fans.specs.Around.{around as entries_around, live_around, nodes_of, turned_at}
 use Rattle.fans.specs.Fans.{ring_of, triangles_of}
 use Rattle.fans.proofs.Fans.{fan_closes}
-use Rattle.fans.proofs.Gathering.{around_tells}
+use Rattle.fans.proofs.Tallies.{around_tells}
 use Rattle.fans.proofs.Whole.{whole_fan_has_all, whole_fan_has_live}
 use Rattle.rounds.specs.Choices.{closing, hole_node, is_marked}
 use Rattle.hierarchy.specs.Layers.{shape, triangle_of}

@@ -1,1 +1,2 @@
 pub mod Tips
+pub mod Printed

@@ -1,10 +1,10 @@
 //! The answers of tips: a line for each, and a dot in the picture.
+use crate::failure::{Failure, named};
 use crate::list::TipList;
 use crate::picture::{Dot, Picture, Spot};
 use crate::sealed::{Cell, Numeral, Sealed};
 use crate::tally::Tally;
 use crate::tips::{LineError, next_line, read_tip};
-use anyhow::anyhow;
 use nodes::ReadStore;
 use refusal::Refusal;
 use std::alloc::Global;
@@ -28,7 +28,7 @@ impl<W: Write, P: Write> Report<W, P> {
         sealed: &mut Sealed<S>,
         path: &str,
         tips: &mut R,
-    ) -> anyhow::Result<()> {
+    ) -> Result<(), Failure> {
         self.write_head(sealed)?;
         let mut list = TipList::new(heap)?;
         let mut line = Vec::new(heap);
@@ -38,11 +38,11 @@ impl<W: Write, P: Write> Report<W, P> {
                 Ok(false) => break,
                 Err(e) => {
                     self.flush(heap, sealed, &mut list)?;
-                    return Err(anyhow!(format!(in heap; "{path:?}: {e}")?));
+                    return named(heap, path, Err(e));
                 }
             }
         }
-        self.flush(heap, sealed, &mut list)
+        Ok(self.flush(heap, sealed, &mut list)?)
     }
 
     // Gathers the tip of a line, where it has one. A bad line is told after the tips before it, so it ends their list.

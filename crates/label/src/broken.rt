@@ -3,7 +3,7 @@ use clash::first_clash;
 use desk::Desk;
 use plane::{Edge, Point};
 use refusal::{Cause, Refusal};
-use rules::loop_edges;
+use rules::{Stroke, loop_edges};
 use std::alloc::{AllocError, Global};
 use std::fmt;
 
@@ -88,14 +88,39 @@ fn listed_words(heap: Global, desk: &Desk, later: usize) -> Result<String, Alloc
     format!(in heap; " (the edge {line} is listed at {earlier} and at {later})")
 }
 
-// Two edges that touch: after a check the strokes are the sheet's edges.
+// The edges of the sheet by first listing, as segments, up to the one at this place.
+// Not those of the desk's own table: what a check leaves in it is open.
+fn strokes_up_to(heap: Global, desk: &Desk, last: usize) -> Result<Vec<Stroke>, AllocError> {
+    let edges = desk.edges.as_slice();
+    let mut found = Vec::new(heap);
+    for (i, edge) in edges.iter().enumerate() {
+        if found.len() > last {
+            break;
+        }
+        let back = Edge {
+            from: edge.to,
+            to: edge.from,
+        };
+        if !edges[..i].contains(&back) {
+            found.push(Stroke {
+                edge: *edge,
+                start: point_at(desk, usize::from(edge.from)),
+                end: point_at(desk, usize::from(edge.to)),
+            })?;
+        }
+    }
+    Ok(found)
+}
+
+// Two edges that touch.
 fn touch_words(heap: Global, desk: &Desk, later: usize) -> Result<String, AllocError> {
-    let strokes = desk.strokes.as_slice();
-    let Some(clash) = first_clash(&strokes[..strokes.len().min(later.saturating_add(1))]) else {
+    let strokes = strokes_up_to(heap, desk, later)?;
+    let strokes = strokes.as_slice();
+    let Some(clash) = first_clash(strokes) else {
         return Ok(String::new(heap));
     };
-    let first = Line(desk, stroke_at(desk, clash.earlier));
-    let second = Line(desk, stroke_at(desk, clash.later));
+    let first = Line(desk, stroke_at(strokes, clash.earlier));
+    let second = Line(desk, stroke_at(strokes, clash.later));
     format!(in heap; " (the edge {first} and the edge {second})")
 }
 
@@ -109,8 +134,7 @@ fn edge_at(desk: &Desk, place: usize) -> Edge {
     edges.get(place).copied().unwrap_or_default()
 }
 
-fn stroke_at(desk: &Desk, place: usize) -> Edge {
-    let strokes = desk.strokes.as_slice();
+fn stroke_at(strokes: &[Stroke], place: usize) -> Edge {
     strokes.get(place).copied().unwrap_or_default().edge
 }
 

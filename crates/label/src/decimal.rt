@@ -29,3 +29,28 @@ fn rounded(top: u64, bottom: u64, of_one: u64) -> u64 {
     let bottom = bottom.max(1);
     top.saturating_mul(of_one).saturating_add(bottom / 2) / bottom
 }
+
+#[cfg(test)]
+mod tests {
+    use super::*;
+    use std::test::Fail;
+
+    #[test]
+    fn quotients_are_rounded(rt: HostRuntime) -> Result<(), Fail> {
+        for (top, bottom, told) in [
+            (101, 20, "5.05 5.050"),
+            (1, 200, "0.01 0.005"),
+            (2, 3, "0.67 0.667"),
+            (0, 7, "0.00 0.000"),
+            (7, 0, "7.00 7.000"),
+        ] {
+            let said = format!(in rt.alloc();
+                "{} {}",
+                Hundredths(top, bottom),
+                Thousandths(top, bottom)
+            )?;
+            assert_eq!(rt; said.as_str(), told);
+        }
+        Ok(())
+    }
+}

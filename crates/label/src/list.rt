@@ -99,6 +99,10 @@ mod tests {
             };
             assert_eq!(rt; list.in_file(refusal).place, place);
         }
+        list.push(tip)?;
+        list.clear();
+        let third = Refusal::new(Cause::OffSheet, Layer::Place, 3);
+        assert_eq!(rt; list.in_file(third).place, 1028);
         Ok(())
     }
 }

@@ -17,10 +17,10 @@ mod wordings;
 
 use answers::Report;
 use anyhow::anyhow;
-use args::{Asked, USAGE, read_words};
+use args::{Asked, OVERWRITES, USAGE, read_words};
 use broken::clash_words;
 use desk::{Desk, LEAST};
-use failure::Failure;
+use failure::{Failure, named};
 use nodes::{Node, ReadStore, SliceStore, WriteStore};
 use parts::write_parts;
 use picture::Picture;
@@ -45,16 +45,9 @@ fn read_arguments(rt: &HostRuntime) -> anyhow::Result<Asked> {
     let mut words = env::args(rt)?;
     let _ = words.next();
     match read_words(words) {
+        Some(asked) if asked.would_overwrite() => Err(anyhow!(OVERWRITES)),
         Some(asked) => Ok(asked),
         None => Err(anyhow!(USAGE)),
-    }
-}
-
-// What a file gave, or what failed with the file's name before it, on one line whatever is in the name.
-fn named<T>(heap: Global, path: &str, outcome: io::Result<T>) -> anyhow::Result<T> {
-    match outcome {
-        Ok(value) => Ok(value),
-        Err(e) => Err(anyhow!(format!(in heap; "{path:?}: {e}")?)),
     }
 }
 
@@ -105,18 +98,10 @@ fn begin_picture<S: ReadStore>(
     Picture::begin(file, sealed)
 }
 
-// Answers the tips of a file.
-fn answer_file<S: ReadStore, W: Write, P: Write>(
-    rt: &HostRuntime,
-    path: &str,
-    sealed: &mut Sealed<S>,
-    report: &mut Report<W, P>,
-) -> anyhow::Result<()> {
-    let heap = rt.alloc();
-    let file = named(heap, path, fs::open(rt, path))?;
-    let mut tips = BufReader::new(heap, file)?;
-    sealed.write_layers(&mut report.out)?;
-    report.answer_all(heap, sealed, path, &mut tips)
+// The tips of a file, as they will be read.
+fn open_tips(rt: &HostRuntime, path: &str) -> Result<BufReader<File>, Failure> {
+    let file = named(rt.alloc(), path, fs::open(rt, path))?;
+    Ok(BufReader::new(rt.alloc(), file)?)
 }
 
 // Prints and draws what is asked for.
@@ -124,12 +109,17 @@ fn carry_out<S: ReadStore>(
     rt: &HostRuntime,
     asked: &Asked,
     sealed: &mut Sealed<S>,
-) -> anyhow::Result<()> {
+) -> Result<(), Failure> {
     let heap = rt.alloc();
     let mut out = BufWriter::new(heap, io::writer(rt))?;
     // It fails where standard output is closed, before the picture's file would take its place.
     sealed.write_size(&mut out)?;
     out.flush()?;
+    // Before a picture is begun that could not be ended without them.
+    let tips = match &asked.tips {
+        None => None,
+        Some(path) => Some((path.as_str(), open_tips(rt, path.as_str())?)),
+    };
     let picture = match &asked.svg {
         None => None,
         Some(path) => {
@@ -142,11 +132,14 @@ fn carry_out<S: ReadStore>(
         picture,
         tally: Tally::default(),
     };
-    match &asked.tips {
+    match tips {
         None => write_parts(&mut report.out, sealed)?,
-        Some(path) => answer_file(rt, path.as_str(), sealed, &mut report)?,
+        Some((path, mut tips)) => {
+            sealed.write_layers(&mut report.out)?;
+            report.answer_all(heap, sealed, path, &mut tips)?;
+        }
     }
-    end(asked, sealed, report)
+    Ok(end(asked, sealed, report)?)
 }
 
 // Ends what is printed and drawn.

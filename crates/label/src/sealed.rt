@@ -1,4 +1,7 @@
 //! A sheet in which tips are answered.
+ghost use Rattle.std.specs.Prelude.{Some};
+ghost use Rattle.label.specs.Printed.{cell_words, numeral_words};
+
 use crate::tip::Tip;
 use crate::wordings::Wordings;
 use desk::Desk;
@@ -74,6 +77,8 @@ impl<S: ReadStore> Sealed<S> {
 pub(crate) struct Numeral(pub(crate) Option<u16>);
 
 impl fmt::Display for Numeral {
+    ghost output = { λ numeral. Some (numeral_words numeral.0) };
+
     fn fmt<W: fmt::Write>(&self, f: &mut fmt::Formatter<W>) -> fmt::Result {
         match self.0 {
             None => f.pad("-"),
@@ -87,6 +92,8 @@ impl fmt::Display for Numeral {
 pub(crate) struct Cell(pub(crate) Answer);
 
 impl fmt::Display for Cell {
+    ghost output = { λ cell. Some (cell_words cell.0) };
+
     fn fmt<W: fmt::Write>(&self, f: &mut fmt::Formatter<W>) -> fmt::Result {
         match self.0 {
             Answer::Vertex(v) => write!(f, "vertex {v}"),

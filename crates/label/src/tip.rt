@@ -1,5 +1,7 @@
 //! A tip of a file, whole or rational, so that one list takes both.
+ghost use Rattle.label.specs.Printed.{tip_words};
 ghost use Rattle.label.specs.Tips.{tip_point};
+ghost use Rattle.std.specs.Prelude.{Some};
 ghost use Rattle.std.proofs.Common.{rules};
 
 use plane::{Kernel, Point, RationalTip, Side, WholeTip};
@@ -13,6 +15,8 @@ pub(crate) enum Tip {
 }
 
 impl fmt::Display for Tip {
+    ghost output = { λ tip. Some (tip_words tip) };
+
     fn fmt<W: fmt::Write>(&self, f: &mut fmt::Formatter<W>) -> fmt::Result {
         match self {
             Tip::Whole(tip) => tip.fmt(f),

@@ -135,7 +135,16 @@ mod tests {
                     most: 65_535,
                 }),
             ),
+            (
+                b"1 1 4294967296",
+                Err(LineError::TooLarge {
+                    word: 3,
+                    most: 4_294_967_295,
+                }),
+            ),
+            (&[b'6'; 1000], Err(LineError::TooFew)),
             (&[b'6'; 1001], Err(LineError::TooLong)),
+            (&[b'#'; 1001], Ok(None)),
         ] {
             assert_eq!(rt; read_tip(line), tip);
         }

@@ -1,6 +1,7 @@
 -- What a slice holds after several elements were put into it.
-use Rattle.std.proofs.Common.{◌≡◌, ℕ, suc, ◌+◌, ◌<◌, ◌≤◌, List, [], ◌∷◌, ◌++◌, length, get_or, take, drop, set, sym, refl, ap, ◌∙◌, append_assoc, arith}
-use Rattle.std.proofs.lemmas.List.{length-set, take_more, take_more_set, drop-set-lt, take-append-drop, take_at}
+use Rattle.std.proofs.Common.{◌≡◌, ℕ, suc, ◌+◌, ◌<◌, ◌≤◌, List, [], ◌∷◌, ◌++◌, add-one, length, get_or, take, drop, drop-cons, set, sym, refl, ap, ◌∙◌, append_assoc, arith}
+use Rattle.std.proofs.Math.Seq.{set-append_seam}
+use Rattle.std.proofs.lemmas.List.{length-append, length-set, take_more, take_more_set, drop-set-lt, take-append-drop, take_at}
 use Rattle.std.proofs.lemmas.Bool.{lt-ltb, cond-true}
 use Rattle.lent.specs.Kept.{Kept, elements, kept, put, puts, over}
 
@@ -41,6 +42,15 @@ puts_over items xs h =
     let z : 0 + length xs ≡ length xs = omega arith in
     let room : 0 + length xs ≤ length items = omega arith in
     puts_room items 0 xs room ∙ ap (λ j. kept (xs ++ drop j items) j) z
+
+-- one entry more, behind those that are written over the front
+pub over_more : {X : Type 0} (items xs : List X) (x : X) → length xs < length items → set (over xs items) (length xs) x ≡ over (xs ++ x ∷ []) items
+over_more items xs x inside =
+    let n = length xs in
+    let rest = drop (n + 1) items in
+    let here : drop n items ≡ get_or items n x ∷ rest = rw (← add-one n) at (drop-cons items n x inside) in
+    ap (λ l. set (xs ++ l) n x) here ∙ set-append_seam xs (get_or items n x) rest x
+    ∙ sym (ap (λ k. (xs ++ x ∷ []) ++ drop k items) (length-append xs (x ∷ [])) ∙ append_assoc xs (x ∷ []) rest)
 
 -- one more, behind those that were put
 pub puts_next : {X : Type 0} (k₀ k k' : Kept X) (xs : List X) (x : X) → k ≡ puts k₀ xs → k' ≡ put k x → k' ≡ puts k₀ (xs ++ x ∷ [])

@@ -75,7 +75,12 @@ impl<M: Memory> WriteStore for LentStore<M> {
         Ok(())
     }
 
-    fn empty(&mut self) {
+    // As the trait says, and the memory stays as it is.
+    fn empty(&mut self)
+        ensures nodes { stored M.nodes self.new ≡ [] }
+        ensures room { M.room (memory_of self.new) ≡ M.room (memory_of self.old) }
+        ensures rest { memory_of self.new ≡ memory_of self.old }
+    {
         self.used = 0;
     }
 }

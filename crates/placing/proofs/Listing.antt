@@ -1,9 +1,9 @@
 -- The answers to tips, one after another.
-use Rattle.std.proofs.Common.{◌≡◌, ℕ, zero, suc, ◌+◌, ◌<◌, ◌≤◌, List, [], ◌∷◌, ◌++◌, add-one, append_assoc, drop, drop-cons, get_or, length, map, min, set, take, refl, sym, ap, ◌∙◌, arith}
-use Rattle.std.proofs.Math.Seq.{set-append_seam}
+use Rattle.std.proofs.Common.{◌≡◌, ℕ, zero, suc, ◌+◌, ◌<◌, List, [], ◌∷◌, ◌++◌, get_or, length, map, set, take, refl, sym, ap, ◌∙◌, arith}
 use Rattle.std.proofs.Math.ListN.{get_or-map}
-use Rattle.std.proofs.lemmas.List.{length-append, length-map, length-take-le, take_more}
+use Rattle.std.proofs.lemmas.List.{length-map, length-take-le, take-map, take_more}
 use Rattle.lent.specs.Kept.{over}
+use Rattle.lent.proofs.Puts.{over_more}
 use Rattle.nodes.specs.declared.node.Node.{Node}
 use Rattle.plane.specs.declared.Point.{Point}
 use Rattle.plane.specs.Points.{Spot}
@@ -14,20 +14,9 @@ use Rattle.walk.specs.declared.Found.{Found}
 use Rattle.sheet.specs.declared.tables.Size.{Size}
 use Rattle.placing.specs.Placings.{list_said, place_said}
 
--- one entry more, behind those that are written
-pub over_more : {X : Type 0} (items xs : List X) (x : X) → length xs < length items → set (over xs items) (length xs) x ≡ over (xs ++ x ∷ []) items
-over_more items xs x inside =
-    let n = length xs in
-    let rest = drop (n + 1) items in
-    let here : drop n items ≡ get_or items n x ∷ rest = rw (← add-one n) at (drop-cons items n x inside) in
-    ap (λ l. set (xs ++ l) n x) here ∙ set-append_seam xs (get_or items n x) rest x
-    ∙ sym (ap (λ k. (xs ++ x ∷ []) ++ drop k items) (length-append xs (x ∷ [])) ∙ append_assoc xs (x ∷ []) rest)
-
 -- what the first tips mean is the first of what all mean
 pub means_of_front : {X Y : Type 0} (f : X → Y) (n : ℕ) (xs : List X) → map f (take n xs) ≡ take n (map f xs)
-means_of_front f zero xs = refl
-means_of_front f (suc n) [] = refl
-means_of_front f (suc n) (x ∷ xs) = ap (λ l. f x ∷ l) (means_of_front f n xs)
+means_of_front f n xs = sym (take-map f n xs)
 
 module _ (z : Size) (ps : List Point) (nodes : List Node) (tops : List ℕ) where
   pub list_length : (at : ℕ) (tips : List (Option Spot)) → length (list_said z at ps nodes tops tips) ≡ length tips

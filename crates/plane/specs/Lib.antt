@@ -3,3 +3,4 @@ pub mod Edges
 pub mod Identities
 pub mod Kernels
 pub mod Points
+pub mod Printed

@@ -20,7 +20,9 @@ pub use whole::WholeTip;
 /// A point of a sheet, with whole coordinates.
 #[derive(Clone, Copy, PartialEq, Eq, Debug, Default)]
 pub struct Point {
+    /// How far to the right.
     pub x: u16,
+    /// How far up.
     pub y: u16,
 }
 
@@ -55,7 +57,9 @@ impl Clash for Point {
 /// A directed edge, by its vertices.
 #[derive(Clone, Copy, PartialEq, Eq, Debug, Default)]
 pub struct Edge {
+    /// The vertex where it starts.
     pub from: u16,
+    /// The vertex where it ends.
     pub to: u16,
 }
 
@@ -68,11 +72,25 @@ impl Clash for Edge {
     }
 }
 
+/// A triangle, by the vertices of its corners, counterclockwise.
+#[derive(Clone, Copy, PartialEq, Eq, Debug, Default)]
+pub struct Corners {
+    /// The first corner's vertex.
+    pub a: u16,
+    /// The second corner's vertex.
+    pub b: u16,
+    /// The third corner's vertex.
+    pub c: u16,
+}
+
 /// On which side of a line a tip is, as one looks along the line.
 #[derive(Clone, Copy, PartialEq, Eq, Debug)]
 pub enum Side {
+    /// To the right of it.
     Right,
+    /// On it.
     On,
+    /// To the left of it.
     Left,
 }
 

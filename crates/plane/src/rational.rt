@@ -1,5 +1,6 @@
-ghost use Rattle.std.specs.Prelude.{◌≡◌};
+ghost use Rattle.std.specs.Prelude.{◌≡◌, Some};
 ghost use Rattle.plane.specs.Kernels.{rational_point};
+ghost use Rattle.plane.specs.Printed.{rational_words};
 ghost use Rattle.std.proofs.Common.{rules};
 
 use crate::determinant::SmallSpot;
@@ -10,8 +11,11 @@ use std::fmt;
 /// A tip at the point (x/z, y/z).
 #[derive(Clone, Copy, PartialEq, Eq, Debug)]
 pub struct RationalTip {
+    /// How far to the right, times `z`.
     pub x: u64,
+    /// How far up, times `z`.
     pub y: u64,
+    /// What the other two are divided by.
     pub z: u32,
 }
 
@@ -30,6 +34,8 @@ impl RationalTip {
 }
 
 impl fmt::Display for RationalTip {
+    ghost output = { λ tip. Some (rational_words tip) };
+
     fn fmt<W: fmt::Write>(&self, f: &mut fmt::Formatter<W>) -> fmt::Result {
         write!(f, "{} {} {}", self.x, self.y, self.z)
     }

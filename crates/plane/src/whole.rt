@@ -1,4 +1,6 @@
 ghost use Rattle.plane.specs.Kernels.{whole_point};
+ghost use Rattle.plane.specs.Printed.{whole_words};
+ghost use Rattle.std.specs.Prelude.{Some};
 ghost use Rattle.std.proofs.Common.{rules};
 
 use crate::determinant::whole_side;
@@ -9,11 +11,15 @@ use std::fmt;
 /// A tip at a whole point.
 #[derive(Clone, Copy, PartialEq, Eq, Debug)]
 pub struct WholeTip {
+    /// How far to the right.
     pub x: u16,
+    /// How far up.
     pub y: u16,
 }
 
 impl fmt::Display for WholeTip {
+    ghost output = { λ tip. Some (whole_words tip) };
+
     fn fmt<W: fmt::Write>(&self, f: &mut fmt::Formatter<W>) -> fmt::Result {
         write!(f, "{} {}", self.x, self.y)
     }

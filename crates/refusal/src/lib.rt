@@ -1,8 +1,9 @@
 //! Why something that was handed in is not taken: one number, a layer and a place.
 #![tactic(auto)]
 
-ghost use Rattle.std.specs.Prelude.{◌≡◌};
+ghost use Rattle.std.specs.Prelude.{◌≡◌, Some};
 ghost use Rattle.refusal.specs.Numbers.{number as number_of, layer as layer_of, refused};
+ghost use Rattle.refusal.specs.Printed.{layer_name, sentence, words};
 
 use std::error::Error;
 use std::fmt;
@@ -86,8 +87,11 @@ pub enum Layer {
 /// A refusal: what is wrong, who says so, and where.
 #[derive(Clone, Copy, PartialEq, Eq, Debug)]
 pub struct Refusal {
+    /// What is wrong.
     pub cause: Cause,
+    /// Who says so.
     pub layer: Layer,
+    /// Where: a byte, an entry, a vertex or a count, as the cause has it.
     pub place: usize,
 }
 
@@ -111,6 +115,8 @@ impl Cause {
 
 /// What to mend, in a plain sentence.
 impl fmt::Display for Cause {
+    ghost output = { λ cause. Some (sentence cause) };
+
     fn fmt<W: fmt::Write>(&self, f: &mut fmt::Formatter<W>) -> fmt::Result {
         f.write_str(match self {
             Cause::FileEnds => "the file stops too early; send it whole",
@@ -173,6 +179,8 @@ impl Layer {
 
 /// What a person calls the layer.
 impl fmt::Display for Layer {
+    ghost output = { λ layer. Some (layer_name layer) };
+
     fn fmt<W: fmt::Write>(&self, f: &mut fmt::Formatter<W>) -> fmt::Result {
         f.write_str(match self {
             Layer::File => "file",
@@ -198,6 +206,8 @@ impl Refusal {
 }
 
 impl fmt::Display for Refusal {
+    ghost output = { λ refusal. Some (words refusal) };
+
     fn fmt<W: fmt::Write>(&self, f: &mut fmt::Formatter<W>) -> fmt::Result {
         let number = self.cause.number();
         let layer = self.layer.number();
@@ -210,3 +220,6 @@ impl fmt::Display for Refusal {
 }
 
 impl Error for Refusal {}
+
+#[cfg(test)]
+mod tests;

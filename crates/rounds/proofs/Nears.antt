@@ -1,8 +1,8 @@
 -- The live nodes with their corners.
-use Rattle.std.proofs.Common.{◌≡◌, ℕ, zero, suc, ◌+◌, ◌<◌, ◌≤◌, Bool, true, false, not, cond, nat_lt, List, [], ◌∷◌, ◌++◌, length, get_or, map, take, set, Some, None, Ok, Err, Result, refl, sym, ap, ◌∙◌, arith}
+use Rattle.std.proofs.Common.{◌≡◌, ℕ, zero, suc, ◌+◌, ◌<◌, Bool, true, false, not, cond, nat_lt, List, [], ◌∷◌, ◌++◌, length, get_or, map, take, set, Some, None, Ok, Err, Result, refl, sym, ap, ◌∙◌}
 use Rattle.std.specs.List.{cons_option, filter, filter_map}
 use Rattle.std.specs.Option.{option_and_then}
-use Rattle.std.proofs.lemmas.List.{append-nil, get_or_past, take_more, take_more_set}
+use Rattle.std.proofs.lemmas.List.{append-nil, take_more, take_more_set}
 use Rattle.std.proofs.lemmas.List.Elements.{filter_map-append}
 use Rattle.plane.specs.Points.{GridPoint}
 use Rattle.fans.specs.declared.around.Turned.{Turned}
@@ -13,16 +13,10 @@ use Rattle.refusal.specs.declared.Layer.TheVariants.{Store}
 use Rattle.refusal.specs.declared.Refusal.{Refusal}
 use Rattle.refusal.specs.Numbers.{refused}
 use Rattle.nodes.specs.declared.node.Node.{Node}
-use Rattle.nodes.specs.Nodes.{blank, number_in}
+use Rattle.nodes.specs.Nodes.{blank}
 use Rattle.rounds.specs.declared.held.Held.{Held}
 use Rattle.rounds.specs.Choices.{Found, closed_fan, closing, closings, goes, is_marked, look, look_from, look_on}
 use Rattle.rounds.specs.Near.{closings_near, held_at, held_of, kept_near, look_near, near, turned_held}
-
-pub number_past : (nodes : List Node) (k i : ℕ) → length nodes ≤ k → i < 3 → number_in nodes k i ≡ 0
-number_past nodes k zero h l = ap (λ (n : Node). n.a) (get_or_past nodes k blank h)
-number_past nodes k (suc zero) h l = ap (λ (n : Node). n.b) (get_or_past nodes k blank h)
-number_past nodes k (suc (suc zero)) h l = ap (λ (n : Node). n.c) (get_or_past nodes k blank h)
-number_past nodes k (suc (suc (suc i))) h l = absurd (omega arith)
 
 -- ---- gathering those around a vertex
 

@@ -9,7 +9,7 @@ use Rattle.plane.specs.Points.{GridPoint}
 use Rattle.refusal.specs.declared.Cause.{Cause}
 use Rattle.refusal.specs.declared.Cause.TheVariants.{TableTooShort}
 use Rattle.tiling.specs.Triangles.{Triangle}
-use Rattle.ears.specs.declared.Corners.{Corners}
+use Rattle.plane.specs.declared.Corners.{Corners}
 use Rattle.ears.specs.Cutting.{cut_said, triangle_of}
 use Rattle.ears.specs.Ears.{cut_of}
 use Rattle.rounds.specs.declared.holes.Hole.{Hole}

@@ -1,11 +1,10 @@
 //! The live nodes with their corners, read once.
-ghost use Rattle.std.specs.Prelude.{◌≡◌, ◌<◌, ◌≤◌, length, slice_index_or, take};
-ghost use Rattle.fans.specs.Around.{corners_of};
-ghost use Rattle.nodes.specs.Nodes.{blank, number_in};
+ghost use Rattle.std.specs.Prelude.{◌≡◌, ◌≤◌, length, take};
 ghost use Rattle.rounds.specs.Near.{held_of, near, turned_held};
 
-use fans::{Corners, Turned, turn};
+use fans::{Turned, corners_at, turn};
 use nodes::ReadStore;
+use plane::Corners;
 
 /// A live node: its number, and its corners.
 // A round asks each vertex for the nodes around it, so it reads the store once and then goes over these.
@@ -13,26 +12,6 @@ use nodes::ReadStore;
 pub(crate) struct Held {
     pub(crate) node: u16,
     pub(crate) corners: Corners,
-}
-
-// Number `i` of node `k`, and 0 where there is no such node.
-#[tactic(auto, using(crate::proofs::Nears::number_past))]
-fn number<S: ReadStore>(store: &S, k: u16, i: usize) -> u16
-    requires { i < 3 }
-    ensures { result ≡ number_in (S.nodes store.now) k i }
-{
-    store.number(usize::from(k), i).unwrap_or(0)
-}
-
-// The corners of node `k`, each 0 where there is no such node.
-pub(crate) fn corners_at<S: ReadStore>(store: &S, k: u16) -> Corners
-    ensures { result ≡ corners_of (slice_index_or (S.nodes store.now) k blank) }
-{
-    Corners {
-        a: number(store, k, 0),
-        b: number(store, k, 1),
-        c: number(store, k, 2),
-    }
 }
 
 // Puts the live nodes into the front of `held`.

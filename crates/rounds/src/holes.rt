@@ -7,10 +7,10 @@ ghost use Rattle.fans.specs.Around.{nodes_of};
 ghost use Rattle.fans.specs.Fans.{ring_of};
 ghost use Rattle.rounds.specs.Near.{filling, hole_of, node_over, padded};
 
-use ears::{Corners, cut};
+use ears::cut;
 use fans::Turned;
 use nodes::{Node, WriteStore};
-use plane::Point;
+use plane::{Corners, Point};
 
 /// A hole: the vertex and its nodes are out, and nothing is in their place. It cannot be let go: the one way on is to close it.
 // So no `Drop`, and no `Copy`. Its ring has `size` corners, and as many children.

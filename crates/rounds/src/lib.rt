@@ -12,6 +12,7 @@ mod live;
 mod numbers;
 mod taking;
 
+use checking::front;
 use held::Held;
 use nodes::WriteStore;
 pub use numbers::wrong_nodes;
@@ -19,7 +20,7 @@ use numbers::{MOST_NODES, MOST_VERTICES, wrong_number};
 use plane::Point;
 use refusal::{Cause, Layer, Refusal};
 use sheet::Size;
-use taking::{front, round_within};
+use taking::round_within;
 
 /// One round, after so many: the inner vertices are looked at in ascending order, and each is taken out that is left, has three to eight
 /// live nodes around it which make one fan, whose ring can be cut, and no neighbour that is taken out before it. The nodes that close the

@@ -3,8 +3,8 @@ ghost use Rattle.std.specs.Prelude.{◌≡◌, length, slice_index_or};
 ghost use Rattle.nodes.specs.Nodes.{blank};
 ghost use Rattle.rounds.specs.Rounds.{has_vertices as has_vertices_of, is_live as is_live_of, wrong_live as wrong_live_of, wrong_node as wrong_node_of, wrong_nodes as wrong_nodes_of, wrong_number as wrong_number_of};
 
-use crate::held::corners_at;
 use checking::wrong_vertex;
+use fans::corners_at;
 use nodes::ReadStore;
 use plane::Point;
 use sheet::Size;

@@ -11,6 +11,7 @@ use crate::closing::close_all;
 use crate::held::{Held, hold};
 use crate::live::{count_kept, settle};
 use crate::numbers::MOST_VERTICES;
+use checking::front;
 use fans::degrees;
 use nodes::{ReadStore, WriteStore};
 use plane::Point;
@@ -103,13 +104,6 @@ fn take_out<S: WriteStore>(
     }
     close_all(points, held, marks, store);
     Ok(settle(held, marks, count, tally.fresh, live))
-}
-
-// The first of these, as many as there are.
-pub(crate) fn front(items: &[u16], count: usize) -> &[u16]
-    ensures { result.now ≡ take count items.now }
-{
-    &items[..items.len().min(count)]
 }
 
 // A round, where every number is inside its range. `table` and `marks` are scratch: as many nodes can be live as a sheet can have.

@@ -207,3 +207,20 @@ fn too_few_taken_out_is_told_at_the_round(rt: HostRuntime) -> Result<(), Fail> {
     assert_eq!(&rt; live, [0, 1, 2, 3]);
     Ok(())
 }
+
+// A sheet with one inner vertex never has more than ten nodes.
+#[test]
+fn more_nodes_than_a_sheet_has_are_refused(rt: HostRuntime) -> Result<(), Fail> {
+    let mut slots = [Node::default(); 11];
+    let mut store = SliceStore::new(&mut slots);
+    for _node in 0..11 {
+        store.add(node([4, 0, 1]))?;
+    }
+    let mut live = [0, 1, 2];
+    let refusal = Refusal::new(Cause::OutOfRange, Layer::Build, 10);
+    assert_eq!(&rt;
+        round(ONE, &points(), &mut live, 3, 0, &mut store),
+        Err(refusal)
+    );
+    Ok(())
+}

@@ -13,8 +13,11 @@ use refusal::Cause;
 /// An edge of a sheet, with where its ends are.
 #[derive(Clone, Copy, PartialEq, Eq, Debug, Default)]
 pub struct Stroke {
+    /// The edge.
     pub edge: Edge,
+    /// Where it starts.
     pub start: Point,
+    /// Where it ends.
     pub end: Point,
 }
 

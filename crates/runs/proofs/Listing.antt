@@ -9,7 +9,21 @@ use Rattle.board.specs.Histories.Told.{listed}
 use Rattle.board.specs.Turns.{list_answers}
 use Rattle.runs.specs.declared.turns.Outcome.{Outcome}
 use Rattle.runs.specs.declared.turns.Outcome.TheVariants.{Answered, Granted, Refused}
-use Rattle.runs.specs.Plays.{listed_of, outcome_of}
+use Rattle.std.proofs.lemmas.List.{drop_at}
+use Rattle.runs.specs.Plays.{listed_of, outcome_of, where_granted}
+
+-- the entries behind those of its tips stay
+pub listed_rest : (n : ℕ) (o : Outcome) (x : Result (List (Result Found Refusal)) Refusal) (table old : List (Result Found Refusal))
+    → ((es : List (Result Found Refusal)) → x ≡ Ok es → length es ≡ n)
+    → outcome_of o ≡ told_by (and_then {Y = Unit {0}} x (λ _. Ok tt)) → table ≡ list_answers x old → drop (where_granted n o) table ≡ drop (where_granted n o) old
+listed_rest n Granted (Ok es) table old count told front =
+    let long = count es refl in
+    ap (drop n) front ∙ drop_at es (drop (length es) old) n long ∙ ap (λ k. drop k old) long
+listed_rest n Granted (Err e) table old count told front = cc
+listed_rest n (Answered f) (Ok es) table old count told front = cc
+listed_rest n (Answered f) (Err e) table old count told front = front
+listed_rest n (Refused e) (Ok es) table old count told front = cc
+listed_rest n (Refused e) (Err r) table old count told front = front
 
 -- what the outcome tells is what the list answers
 pub listed_is : (n : ℕ) (o : Outcome) (x : Result (List (Result Found Refusal)) Refusal) (table old : List (Result Found Refusal))

@@ -1,8 +1,8 @@
 -- A history grows turn by turn, while the table of answers is filled behind what it holds.
-use Rattle.std.proofs.Common.{◌≡◌, ℕ, zero, suc, ◌+◌, ◌-◌, ◌<◌, ◌≤◌, List, [], ◌∷◌, ◌++◌, Option, Result, drop, get_or, length, map, min, set, take, refl, sym, ap, ◌∙◌, subst, arith}
+use Rattle.std.proofs.Common.{◌≡◌, ℕ, zero, suc, ◌+◌, ◌-◌, ◌<◌, ◌≤◌, List, [], ◌∷◌, ◌++◌, Option, Result, drop, get_or, length, min, set, take, refl, sym, ap, ◌∙◌, subst, arith}
 use borrow.Rule.Slice.PartMut.{mid_of, put_mid}
 use Rattle.std.proofs.lemmas.Slice.{take-put_mid_below}
-use Rattle.std.proofs.lemmas.List.{append-nil, drop-drop, drop-take, drop_all, drop_at, length-append, length-drop, length-take-le, take_all, take_more, take_more_set}
+use Rattle.std.proofs.lemmas.List.{append-nil, drop-drop, drop-set-lt, drop-take, drop_all, drop_at, length-append, length-drop, length-take-le, take_all, take_more, take_more_set}
 use Rattle.plane.specs.Points.{Spot}
 use Rattle.refusal.specs.declared.Refusal.{Refusal}
 use Rattle.walk.specs.declared.Found.{Found}
@@ -13,16 +13,10 @@ use Rattle.runs.specs.declared.turns.Outcome.{Outcome}
 use Rattle.runs.specs.declared.turns.Outcome.TheVariants.{Answered, Granted, Refused}
 use Rattle.runs.specs.declared.turns.Turn.{Turn}
 use Rattle.runs.specs.declared.turns.Turn.TheVariants.{Check, Cut, List as Tips, Load, Place, Round, Seal, Wipe}
-use Rattle.runs.specs.Plays.{filled, history, history_on, listed_of, told_of, turn_of, where_granted}
+use Rattle.runs.specs.Plays.{all_filled, filled, history, history_on, listed_of, told_of, turn_of, where_granted}
 
 abbrev Table : Type 0
 Table = List (Result Found Refusal)
-
--- how many entries all turns fill
-abbrev pub all_filled : {K : Type 0} → List (Turn K) → List Outcome → ℕ
-all_filled [] os = 0
-all_filled (t ∷ ts) [] = 0
-all_filled (t ∷ ts) (o ∷ os) = filled t o + all_filled ts os
 
 -- ---- tables that begin alike
 
@@ -161,6 +155,32 @@ module _ {K : Type 0} (means : K → Option Spot) (start : State) (turns : List 
       let back = sym (put_rest used xs ys within long) in
       runs_next means turns outs i used t o inside room is count start s s' xs (put_mid used (length xs - used) xs ys) (put_alike used xs ys within long) run
       (subst (λ rest. Step s (turn_of means (length (drop used xs)) t) (told_of t o rest) s') back (subst (λ rest. Step s (turn_of means (length rest) t) (told_of t o ys) s') lent step))
+
+-- ---- what stands behind stays
+
+-- what is the same behind a place is so behind a later one
+pub behind : {X : Type 0} (i n : ℕ) (xs ys : List X) → i ≤ n → drop i xs ≡ drop i ys → drop n xs ≡ drop n ys
+behind i n xs ys l h =
+    let e : i + (n - i) ≡ n = omega (arith, l) in
+    ap (λ k. drop k xs) (sym e) ∙ sym (drop-drop (n - i) i xs) ∙ ap (drop (n - i)) h ∙ drop-drop (n - i) i ys ∙ ap (λ k. drop k ys) e
+
+pub outcomes_next : (i : ℕ) (before outs : List Outcome) (o : Outcome) → drop i outs ≡ drop i before → drop (i + 1) (set outs i o) ≡ drop (i + 1) before
+outcomes_next i before outs o h = drop-set-lt (i + 1) outs i o (omega arith) ∙ behind i (i + 1) outs before (omega arith) h
+
+-- a turn that leaves all behind its own entries leaves all behind them in the whole table
+pub rest_next : (used n : ℕ) (before xs ys : Table) → used ≤ length xs → length ys ≡ length xs - used → drop n ys ≡ drop n (mid_of used (length xs - used) xs)
+    → drop used xs ≡ drop used before → drop (used + n) (put_mid used (length xs - used) xs ys) ≡ drop (used + n) before
+rest_next used n before xs ys within long same rest =
+    sym (drop-drop n used (put_mid used (length xs - used) xs ys)) ∙ ap (drop n) (put_rest used xs ys within long) ∙ same
+    ∙ ap (drop n) (lent_rest used xs ∙ rest) ∙ drop-drop n used before
+
+pub filled_whole : {K : Type 0} (n : ℕ) (ts : List (Turn K)) (os : List Outcome) → min (length ts) (length os) ≤ n → all_filled (take n ts) (take n os) ≡ all_filled ts os
+filled_whole zero [] os few = refl
+filled_whole zero (t ∷ ts) [] few = refl
+filled_whole zero (t ∷ ts) (o ∷ os) few = absurd (omega (arith, few))
+filled_whole (suc n) [] os few = refl
+filled_whole (suc n) (t ∷ ts) [] few = refl
+filled_whole (suc n) (t ∷ ts) (o ∷ os) few = ap (λ k. filled t o + k) (filled_whole n ts os (omega (arith, few)))
 
 -- as many turns as have outcomes are all of the history
 module _ {K : Type 0} (means : K → Option Spot) where

@@ -1,9 +1,10 @@
 -- The history that turns and their outcomes make.
-use Rattle.std.specs.Prelude.{◌≡◌, ℕ, ◌+◌, List, [], ◌∷◌, length, map, take, drop, Option, Result, vec_len}
+use Rattle.std.specs.Prelude.{ℕ, ◌+◌, List, [], ◌∷◌, length, map, take, drop, Option, Result, vec_len}
 use Rattle.plane.specs.Points.{Spot}
 use Rattle.refusal.specs.declared.Refusal.{Refusal}
 use Rattle.nodes.specs.declared.node.Node.{Node}
 use Rattle.walk.specs.declared.Found.{Found}
+use Rattle.board.specs.declared.stage.Board.{Board}
 use Rattle.board.specs.Histories.{History, State, Told, Turn as Made, event}
 use Rattle.board.specs.Histories.Told.{answered, granted, listed, refused}
 use Rattle.board.specs.Histories.Turn.{check, cut, list, load, place, round, seal, wipe}
@@ -14,11 +15,11 @@ use Rattle.runs.specs.declared.turns.Outcome.TheVariants.{Answered, Granted, Ref
 use Rattle.runs.specs.declared.turns.Turn.{Turn}
 use Rattle.runs.specs.declared.turns.Turn.TheVariants.{Check, Cut, List as Tips, Load, Place, Round, Seal, Wipe}
 
--- a desk and a store, as a state
-abbrev pub state_of : Desk → List Node → (room : ℕ) → State
-state_of d nodes room =
+-- a board over a desk's tables and a store, as a state
+abbrev pub state_at : Board → Desk → List Node → (room : ℕ) → State
+state_at b d nodes room =
     record {
-      board = d.board;
+      board = b;
       points = d.points.items;
       edges = d.edges.items;
       loops = d.loops.items;
@@ -28,19 +29,13 @@ state_of d nodes room =
       room = room;
     }
 
+-- the state of a desk
+abbrev pub state_of : Desk → List Node → (room : ℕ) → State
+state_of d nodes room = state_at d.board d nodes room
+
 -- the same, with an empty Draft on the board
 abbrev pub set_up : Desk → List Node → (room : ℕ) → State
-set_up d nodes room =
-    record {
-      board = bare;
-      points = d.points.items;
-      edges = d.edges.items;
-      loops = d.loops.items;
-      strokes = vec_len d.strokes;
-      live = d.live.items;
-      nodes = nodes;
-      room = room;
-    }
+set_up d nodes room = state_at bare d nodes room
 
 -- a turn by what its tips mean; a list is lent a table for so many answers
 abbrev pub turn_of : {K : Type 0} → (K → Option Spot) → (room : ℕ) → Turn K → Made
@@ -89,6 +84,12 @@ filled Seal o = 0
 filled (Place tip) o = 0
 filled (Tips tips) o = where_granted (length tips.now) o
 filled Wipe o = 0
+
+-- how many entries all turns fill
+abbrev pub all_filled : {K : Type 0} → List (Turn K) → List Outcome → ℕ
+all_filled [] os = 0
+all_filled (t ∷ ts) [] = 0
+all_filled (t ∷ ts) (o ∷ os) = filled t o + all_filled ts os
 
 -- the history that turns make upon another: of each turn with its outcome, as long as there is one. Each list fills the table of answers
 -- behind the list before it.

@@ -1,10 +1,10 @@
 //! Whole runs of turns on one board.
 #![tactic(auto)]
 
-ghost use Rattle.std.specs.Prelude.{◌≡◌, ◌≤◌, length};
+ghost use Rattle.std.specs.Prelude.{◌≡◌, ◌≤◌, drop, length};
 ghost use Rattle.board.specs.Histories.{Runs, Step};
 ghost use Rattle.board.specs.Law.{Law};
-ghost use Rattle.runs.specs.Plays.{filled as filled_of, history, set_up, state_of, told_of, turn_of};
+ghost use Rattle.runs.specs.Plays.{all_filled, filled as filled_of, history, set_up, state_of, told_of, turn_of};
 
 mod steps;
 mod turns;
@@ -27,7 +27,7 @@ fn filled<K: Kernel>(turn: &Turn<'_, K>, outcome: Outcome) -> usize
     }
 }
 
-/// Makes one turn. A granted list fills the front of the table of answers.
+/// Makes one turn. A granted list fills the front of the table of answers; the entries behind stay, and with any other turn all of them.
 pub fn take_turn<K: Kernel, S: WriteStore>(
     desk: &mut Desk,
     store: &mut S,
@@ -37,6 +37,7 @@ pub fn take_turn<K: Kernel, S: WriteStore>(
     ensures step { Step (state_of desk.old (S.ReadStore.nodes store.old) (S.WriteStore.room store.old)) (turn_of K.means (length answers.old) turn.now) (told_of turn.now result answers.new) (state_of desk.new (S.ReadStore.nodes store.new) (S.WriteStore.room store.new)) }
     ensures room { S.WriteStore.room store.new ≡ S.WriteStore.room store.old }
     ensures filled { filled_of turn.now result ≤ length answers.old }
+    ensures rest { drop (filled_of turn.now result) answers.new ≡ drop (filled_of turn.now result) answers.old }
 {
     match turn {
         Turn::Load(file) => steps::load(desk, store, file),
@@ -58,7 +59,9 @@ fn go_on<K: Kernel, S: WriteStore>(
     answers: &mut [Result<Found, Refusal>],
     outcomes: &mut [Outcome],
 )
-    ensures { Runs (state_of desk.old (S.ReadStore.nodes store.old) (S.WriteStore.room store.old)) (history K.means turns.now outcomes.new answers.new) (state_of desk.new (S.ReadStore.nodes store.new) (S.WriteStore.room store.new)) }
+    ensures run { Runs (state_of desk.old (S.ReadStore.nodes store.old) (S.WriteStore.room store.old)) (history K.means turns.now outcomes.new answers.new) (state_of desk.new (S.ReadStore.nodes store.new) (S.WriteStore.room store.new)) }
+    ensures answers { drop (all_filled turns.now outcomes.new) answers.new ≡ drop (all_filled turns.now outcomes.new) answers.old }
+    ensures outcomes { drop (length turns.now) outcomes.new ≡ drop (length turns.now) outcomes.old }
 {
     let count = turns.len().min(outcomes.len());
     let mut used = 0;
@@ -71,7 +74,8 @@ fn go_on<K: Kernel, S: WriteStore>(
 }
 
 /// Makes all turns one after another on a board that begins with an empty Draft, over the tables of a desk and a store, whatever these hold;
-/// as many as there are entries for their outcomes. Each granted list fills the table of answers behind the list before it.
+/// as many as there are entries for their outcomes. Each granted list fills the table of answers behind the list before it; entries of both
+/// tables that no turn fills stay.
 #[tactic(auto, using(board::proofs::Lawful::law))]
 pub fn play<K: Kernel, S: WriteStore>(
     desk: &mut Desk,
@@ -82,6 +86,8 @@ pub fn play<K: Kernel, S: WriteStore>(
 )
     ensures run { Runs (set_up desk.old (S.ReadStore.nodes store.old) (S.WriteStore.room store.old)) (history K.means turns.now outcomes.new answers.new) (state_of desk.new (S.ReadStore.nodes store.new) (S.WriteStore.room store.new)) }
     ensures law { Law (history K.means turns.now outcomes.new answers.new) }
+    ensures answers { drop (all_filled turns.now outcomes.new) answers.new ≡ drop (all_filled turns.now outcomes.new) answers.old }
+    ensures outcomes { drop (length turns.now) outcomes.new ≡ drop (length turns.now) outcomes.old }
 {
     desk.board = Board::new();
     go_on(desk, store, turns, answers, outcomes);

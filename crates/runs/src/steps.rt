@@ -1,5 +1,5 @@
 //! Each turn as a step from one state to another.
-ghost use Rattle.std.specs.Prelude.{◌≡◌, ◌≤◌, length, map};
+ghost use Rattle.std.specs.Prelude.{◌≡◌, ◌≤◌, drop, length, map};
 ghost use Rattle.board.specs.Histories.{Step, answered_by, told_by};
 ghost use Rattle.board.specs.Histories.Turn.{check, cut, list, load, place, round, seal, wipe};
 ghost use Rattle.runs.specs.Plays.{listed_of, outcome_of, state_of, where_granted};
@@ -82,6 +82,7 @@ pub(crate) fn list<K: Kernel, S: WriteStore>(
     ensures step { Step (state_of desk.old (S.ReadStore.nodes store.old) (S.WriteStore.room store.old)) (list (map K.means tips.now) (length answers.old)) (listed_of (length tips.now) result answers.new) (state_of desk.new (S.ReadStore.nodes store.new) (S.WriteStore.room store.new)) }
     ensures room { S.WriteStore.room store.new ≡ S.WriteStore.room store.old }
     ensures filled { where_granted (length tips.now) result ≤ length answers.old }
+    ensures rest { drop (where_granted (length tips.now) result) answers.new ≡ drop (where_granted (length tips.now) result) answers.old }
 {
     plain(desk.list(tips, store, answers))
 }

@@ -16,11 +16,13 @@ use plane::{Edge, Point};
 use reader::{Reader, fault};
 use refusal::{Cause, Refusal};
 
-/// The least lengths of the tables of points, edges and loops.
+/// The least length of the table of points: the four corners of a sheet, and the most inner vertices.
 pub const LEAST_POINTS: usize = 1028;
 
+/// The least length of the table of edges: the most corners of loops, and the four outside edges.
 pub const LEAST_EDGES: usize = 6154;
 
+/// The least length of the table of loops: the most that a sheet has.
 pub const LEAST_LOOPS: usize = 2050;
 
 /// Whether the tables have room for every sheet that a file can describe.

@@ -5,8 +5,11 @@ ghost use Rattle.sheet.specs.Numerals.{some_numeral as numeral_where_some};
 // Plain numbers, since the table is the caller's: 0 where there is no numeral, and positions in place of a slice of edges.
 #[derive(Clone, Copy, PartialEq, Eq, Debug, Default)]
 pub struct Loop {
+    /// The numeral of the part that the loop bounds, or 0 for none.
     pub numeral: u16,
+    /// The position of its first edge.
     pub start: u16,
+    /// How many corners it has.
     pub corners: u16,
 }
 
@@ -23,18 +26,26 @@ impl Loop {
 // These counts stand beside the tables and not in them: the tables are the caller's, and longer.
 #[derive(Clone, Copy, PartialEq, Eq, Debug, Default)]
 pub struct Size {
+    /// How wide the sheet is.
     pub width: u16,
+    /// How high it is.
     pub height: u16,
+    /// How many inner vertices it has.
     pub inner: u16,
+    /// How many loops.
     pub loops: u16,
+    /// How many corners its loops have together.
     pub corners: u16,
 }
 
 /// What stands in a file before the inner vertices: the sheet's width and height, and how many there are.
 #[derive(Clone, Copy)]
 pub struct Head {
+    /// How wide the sheet is.
     pub width: u16,
+    /// How high it is.
     pub height: u16,
+    /// How many inner vertices it has.
     pub inner: u16,
 }
 
@@ -42,7 +53,10 @@ pub struct Head {
 // A place and a length, as the definitions have them, and no slice: a slice would have to be tied to the file in each clause.
 #[derive(Clone, Copy)]
 pub struct Label {
+    /// The numeral that is labelled.
     pub numeral: u16,
+    /// The place of the wording's first byte.
     pub place: usize,
+    /// How many bytes the wording has.
     pub length: u16,
 }

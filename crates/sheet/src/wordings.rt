@@ -19,7 +19,9 @@ use refusal::Refusal;
 /// A part of a file, with its place.
 #[derive(Clone, Copy)]
 pub struct FilePart<'a> {
+    /// The place of its first byte in the file.
     pub place: usize,
+    /// Its bytes.
     pub bytes: &'a [u8],
 }
 

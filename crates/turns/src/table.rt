@@ -1,4 +1,5 @@
 use crate::alter::{alter, node_of, put_behind};
+use crate::kernels::{make, tell};
 use crate::placed::{Asked, ask, many, one};
 use crate::stored::{MOST_NODES, play};
 use crate::words::{bytes_of, digest};
@@ -65,6 +66,13 @@ impl Table {
             "placeq" => self.ask::<RationalTip>(rt, one(&mut words)),
             "list" => self.ask::<WholeTip>(rt, many(rt.alloc(), &mut words)?),
             "listq" => self.ask::<RationalTip>(rt, many(rt.alloc(), &mut words)?),
+            "whole" => tell::<WholeTip>(rt, &mut words),
+            "rational" => tell::<RationalTip>(rt, &mut words),
+            "make" => match next() {
+                "whole" => make::<WholeTip>(rt, &mut words),
+                "rational" => make::<RationalTip>(rt, &mut words),
+                _ => Ok(rt.println("no such kernel")?),
+            },
             "stage" => self.print_stage(rt),
             "short" => self.shorten(rt, next(), next()),
             "tables" => self.print_tables(rt),

@@ -28,45 +28,25 @@ side_cell : (b drawn : Bool) (u v l : ℕ) → b ≡ drawn → cell_of (edge_or_
 side_cell true d u v l h = edge_cell (nat_lt u v) u v ∙ ap (λ b. cond b (tiling.edge_named u v) (face l)) h
 side_cell false d u v l h = ap (λ b. cond b (tiling.edge_named u v) (face l)) h
 
-first_mark : (x y w : Bool) → ((mark x 1 + (mark y 2 + mark w 4)) % 2 == 1) ≡ x
-first_mark true true true = refl
-first_mark true true false = refl
-first_mark true false true = refl
-first_mark true false false = refl
-first_mark false true true = refl
-first_mark false true false = refl
-first_mark false false true = refl
-first_mark false false false = refl
+-- the number of a triangle's sides, read side by side, and below 8
+abbrev pub marks : (x y w : Bool) → ℕ
+marks x y w = mark x 1 + (mark y 2 + mark w 4)
 
-second_mark : (x y w : Bool) → (((mark x 1 + (mark y 2 + mark w 4)) / 2) % 2 == 1) ≡ y
-second_mark true true true = refl
-second_mark true true false = refl
-second_mark true false true = refl
-second_mark true false false = refl
-second_mark false true true = refl
-second_mark false true false = refl
-second_mark false false true = refl
-second_mark false false false = refl
+pub record Marked (x y w : Bool) : Type 0 where
+  pub first : (marks x y w % 2 == 1) ≡ x
+  pub second : ((marks x y w / 2) % 2 == 1) ≡ y
+  pub third : ((marks x y w / 4) % 2 == 1) ≡ w
+  pub few : nat_lt (marks x y w) 8 ≡ true
 
-third_mark : (x y w : Bool) → (((mark x 1 + (mark y 2 + mark w 4)) / 4) % 2 == 1) ≡ w
-third_mark true true true = refl
-third_mark true true false = refl
-third_mark true false true = refl
-third_mark true false false = refl
-third_mark false true true = refl
-third_mark false true false = refl
-third_mark false false true = refl
-third_mark false false false = refl
-
-pub few_sides : (x y w : Bool) → nat_lt (mark x 1 + (mark y 2 + mark w 4)) 8 ≡ true
-few_sides true true true = refl
-few_sides true true false = refl
-few_sides true false true = refl
-few_sides true false false = refl
-few_sides false true true = refl
-few_sides false true false = refl
-few_sides false false true = refl
-few_sides false false false = refl
+pub marked : (x y w : Bool) → Marked x y w
+marked true true true = record { first = refl; second = refl; third = refl; few = refl }
+marked true true false = record { first = refl; second = refl; third = refl; few = refl }
+marked true false true = record { first = refl; second = refl; third = refl; few = refl }
+marked true false false = record { first = refl; second = refl; third = refl; few = refl }
+marked false true true = record { first = refl; second = refl; third = refl; few = refl }
+marked false true false = record { first = refl; second = refl; third = refl; few = refl }
+marked false false true = record { first = refl; second = refl; third = refl; few = refl }
+marked false false false = record { first = refl; second = refl; third = refl; few = refl }
 
 -- the edges of the sheet are those that are listed of it as a subdivision
 pub listed_is : (s : Sheet) → listed (plane_of s) ≡ edges_of s
@@ -78,17 +58,17 @@ listed_is s = ap (λ es. es ++ outside) (rows s.rings)
 
 -- what the sides tell, whichever the point is on, and whichever are edges of the sheet
 cells_same : (a b c l : ℕ) (ab bc ca x y w : Bool)
-    → cell_of (told_by a b c (mark ab 1 + (mark bc 2 + mark ca 4)) l x y w)
+    → cell_of (told_by a b c (marks ab bc ca) l x y w)
     ≡ cond x
     (cond w (vertex a) (cond y (vertex b) (cond ab (tiling.edge_named a b) (face l))))
     (cond y (cond w (vertex c) (cond bc (tiling.edge_named b c) (face l))) (cond w (cond ca (tiling.edge_named c a) (face l)) (face l)))
 cells_same a b c l ab bc ca true true true = refl
 cells_same a b c l ab bc ca true true false = refl
 cells_same a b c l ab bc ca true false true = refl
-cells_same a b c l ab bc ca true false false = side_cell _ ab a b l (first_mark ab bc ca)
+cells_same a b c l ab bc ca true false false = side_cell _ ab a b l (marked ab bc ca).first
 cells_same a b c l ab bc ca false true true = refl
-cells_same a b c l ab bc ca false true false = side_cell _ bc b c l (second_mark ab bc ca)
-cells_same a b c l ab bc ca false false true = side_cell _ ca c a l (third_mark ab bc ca)
+cells_same a b c l ab bc ca false true false = side_cell _ bc b c l (marked ab bc ca).second
+cells_same a b c l ab bc ca false false true = side_cell _ ca c a l (marked ab bc ca).third
 cells_same a b c l ab bc ca false false false = refl
 
 pub node_tells : (s : Sheet) (p : Spot) (n : Node) → n.sides ≡ sides_number (edges_of s) (shape n)

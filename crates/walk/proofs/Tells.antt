@@ -19,7 +19,7 @@ use Rattle.walk.specs.declared.steps.Walked.{Walked}
 use Rattle.walk.specs.Telling.{WalkTells, cell_of, side_in}
 use Rattle.walk.specs.Walks.{down_from, find_said, found, go_down, told_at, told_node, walk_from, walk_on, walked}
 use Rattle.walk.proofs.Arriving.{arrives, is_below, whole}
-use Rattle.walk.proofs.Cells.{few_sides, node_tells}
+use Rattle.walk.proofs.Cells.{marked, node_tells}
 use Rattle.walk.proofs.Finding.{Fits, Holds, first_found}
 
 -- nodes that cuts and rounds made have a bottom
@@ -76,7 +76,7 @@ walk_tells s nodes live made rounds m few p z on =
     let bn = (cb.1 a.0 (cb.2 a.0 a.4 a.5)).1 in
     let es = edges_of s in
     let ring = bn.ring in
-    let marks = ap (λ k. nat_lt k 8) bn.sides ∙ few_sides (is_drawn es n.a n.b) (is_drawn es n.b n.c) (is_drawn es n.c n.a) in
+    let marks = ap (λ k. nat_lt k 8) bn.sides ∙ (marked (is_drawn es n.a n.b) (is_drawn es n.b n.c) (is_drawn es n.c n.a)).few in
     let right = and_from _ _ (is_below s nodes live made rounds m p z n.ring (length s.rings) ring) marks in
     let answer = told_node (side_in s p) n in
     let said =

@@ -18,7 +18,9 @@ use telling::{is_bottom, told};
 /// The answer of a walk, and how many sides it tested.
 #[derive(Clone, Copy, PartialEq, Eq, Debug)]
 pub struct Found {
+    /// The cell that holds the tip.
     pub answer: Answer,
+    /// How many sides were tested on the way to it.
     pub tests: u32,
 }
 

@@ -2,10 +2,10 @@
 ghost use Rattle.std.specs.Prelude.{◌≡◌};
 ghost use Rattle.walk.specs.Walks.{is_bottom_node, edge_named as edge_named_of, edge_or_face as edge_or_face_of, is_on as is_on_of, node_at, side_from, told_by, told_node};
 
-use crate::view::{corners_at, number, side};
-use fans::Corners;
+use crate::view::{number, side};
+use fans::corners_at;
 use nodes::ReadStore;
-use plane::{Kernel, Point, Side};
+use plane::{Corners, Kernel, Point, Side};
 use sheet::Answer;
 
 // The edge between two vertices, the lower one first.

@@ -6,7 +6,6 @@ ghost use Rattle.nodes.specs.Nodes.{blank, number_in};
 ghost use Rattle.fans.specs.Around.{corners_of};
 ghost use Rattle.walk.specs.Walks.{is_right as is_right_of, node_at, side_from, test_node as test_node_of};
 
-use fans::Corners;
 use nodes::ReadStore;
 use plane::{Kernel, Point, Side, place};
 
@@ -27,17 +26,6 @@ pub(crate) fn number<S: ReadStore>(store: &S, k: u16, i: usize) -> u16
     ensures { result ≡ number_in (S.nodes store.now) k i }
 {
     store.number(usize::from(k), i).unwrap_or(0)
-}
-
-// The corners of node `k`, each 0 where there is no such node.
-pub(crate) fn corners_at<S: ReadStore>(store: &S, k: u16) -> Corners
-    ensures { result ≡ corners_of (slice_index_or (S.nodes store.now) k blank) }
-{
-    Corners {
-        a: number(store, k, 0),
-        b: number(store, k, 1),
-        c: number(store, k, 2),
-    }
 }
 
 // Where a vertex is, if it is one.

@@ -1,4 +1,4 @@
-use Rattle.fans.proofs.Gathering.{around_tells}
+use Rattle.fans.proofs.Tallies.{around_tells}
 use Rattle.fans.proofs.around_tells_stands.Goals as goal
 
 pub returns : goal.returns

@@ -1,10 +1,10 @@
 use Rattle.std.proofs.Common.{refl}
-use Rattle.fans.specs.Around.{around, gather_from}
+use Rattle.fans.specs.Around.{around}
 use Rattle.fans.specs.Fans.{fan_from}
 use Rattle.fans.proofs.fan_examples_stand.Goals as goal
 
 pub returns : goal.returns
-unfolding around gather_from fan_from
+unfolding around fan_from
 returns c =
     record {
       wheel_around = refl;
@@ -15,9 +15,4 @@ returns c =
       never_back = refl;
       none_around = refl;
       counts_once = refl;
-      gathered = refl;
-      no_room = refl;
-      no_node = refl;
-      room_first = refl;
-      node_first = refl;
     }

@@ -1,4 +1,4 @@
-use Rattle.std.proofs.Common.{slice_set, ◌∙◌, arith}
+use Rattle.std.proofs.Common.{◌∙◌, arith}
 use Rattle.std.proofs.lemmas.List.{length-set}
 use Rattle.placing.proofs.Listing.{list_step}
 use Rattle.placing.proofs.answer_tips.Goals as goal

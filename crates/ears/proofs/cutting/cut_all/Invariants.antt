@@ -4,4 +4,4 @@ use Rattle.ears.proofs.cutting.cut_all.Given as goal
 
 -- what is made so far, with the cut of the corners that are left, is the cut of all
 abbrev pub invariant-loop-made : goal.invariant-loop-made
-invariant-loop-made l = Sofar (place_of l.points) l.fn.ring l.ring l.triangles l.made
+invariant-loop-made l = Sofar (place_of l.points) l.fn.ring l.ring l.fn.triangles l.triangles l.made

@@ -1,6 +1,6 @@
 use Rattle.std.proofs.Common.{arith}
 use Rattle.std.proofs.lemmas.Result.{err_from_is_err_and}
-use Rattle.fans.proofs.Gathering.{counted_all, counted_more, counted_none, counted_refused}
+use Rattle.fans.proofs.Tallies.{counted_all, counted_more, counted_none, counted_refused}
 use Rattle.fans.proofs.counts.tally_all.Goals as goal
 
 pub loop-k-init : goal.loop-k-init

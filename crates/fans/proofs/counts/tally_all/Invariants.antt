@@ -1,4 +1,4 @@
-use Rattle.fans.proofs.Gathering.{Counted}
+use Rattle.fans.proofs.Tallies.{Counted}
 use Rattle.fans.proofs.counts.tally_all.Given as goal
 
 -- the table has the degrees over the live nodes up to here

@@ -1,19 +1,18 @@
--- The live nodes around a vertex, gathered and counted one after another.
-use Rattle.std.proofs.Common.{◌≡◌, ℕ, ◌+◌, ◌<◌, ◌≤◌, ◌==◌, ◌||◌, Bool, true, false, cond, min, List, [], ◌∷◌, ◌++◌, length, map, nat_lt, get_or, take, drop, set, Ok, Err, Result, Some, None, Option, is_some, IfSome, refl, sym, ap, ◌∙◌, subst, arith}
+-- The live nodes around a vertex, counted one after another.
+use Rattle.std.proofs.Common.{◌≡◌, ℕ, ◌+◌, ◌<◌, ◌≤◌, ◌==◌, ◌||◌, Bool, true, false, cond, min, List, [], ◌∷◌, ◌++◌, length, map, get_or, take, drop, Ok, Err, Some, None, Option, is_some, IfSome, refl, sym, ap, ◌∙◌, subst, arith}
 use Rattle.std.specs.List.{All, cons_option, filter_map}
 use Rattle.std.specs.Option.{option_and_then}
-use Rattle.std.proofs.lemmas.Bool.Decides.{nat_tests}
-use Rattle.std.proofs.lemmas.List.{at_drop_all, at_drop_more, append-nil, length_push, length-set, take_all, take_more, take_more_set}
-use Rattle.std.proofs.lemmas.List.Elements.{All-cons, All-head, All-nil, All-tail, filter_map-append}
+use Rattle.std.proofs.lemmas.List.{at_drop_all, at_drop_more, append-nil, get_or_past, length_push, take_all, take_more}
+use Rattle.std.proofs.lemmas.List.Elements.{All-cons, All-nil, filter_map-append}
 use Rattle.nodes.specs.declared.node.Node.{Node}
 use Rattle.nodes.specs.Nodes.{blank}
 use Rattle.refusal.specs.declared.Refusal.{Refusal}
-use Rattle.refusal.specs.declared.Cause.TheVariants.{OutOfRange, TableTooShort}
-use Rattle.refusal.specs.declared.Layer.TheVariants.{Build, Store}
+use Rattle.refusal.specs.declared.Cause.TheVariants.{OutOfRange}
+use Rattle.refusal.specs.declared.Layer.TheVariants.{Store}
 use Rattle.refusal.specs.Numbers.{refused}
 use Rattle.fans.specs.declared.around.Turned.{Turned}
-use Rattle.fans.specs.declared.corners.Corners.{Corners}
-use Rattle.fans.specs.Around.{AllHeld, AroundTells, GatherTells, around, corners_of, corners_said, degree, gather_from, gather_next, gather_said, is_corner, live_around, live_said, nodes_of, or_refused, raised, turn, turned, turned_at, turned_said}
+use Rattle.plane.specs.declared.Corners.{Corners}
+use Rattle.fans.specs.Around.{AroundTells, around, corners_of, corners_said, degree, is_corner, live_around, live_said, nodes_of, or_refused, raised, turn, turned, turned_at}
 
 -- ---- what one read tells
 
@@ -25,9 +24,9 @@ read_past : (b : Bool) (k : ℕ) (x : Corners) (e : Refusal) → Err e ≡ or_re
 read_past true k x e h = cc
 read_past false k x e h = (refl, cc)
 
-turned_node : (b : Bool) (k : ℕ) (o r : Option Turned) → ◌≡◌ {A = Result (Option Turned) Refusal} (Ok r) (cond b (Ok o) (Err (refused OutOfRange Store k))) → o ≡ r
-turned_node true k o r h = cc
-turned_node false k o r h = cc
+-- where no node is, the corners are those of the node that stands for none
+pub corners_or_none : (nodes : List Node) (k : ℕ) → length nodes ≤ k → corners_of (get_or nodes k blank) ≡ record { a = 0; b = 0; c = 0 }
+corners_or_none nodes k h = ap corners_of (get_or_past nodes k blank h)
 
 -- a node turns exactly where it has the corner
 one_of : (b c d : Bool) (t u w : Turned) → is_some (cond b (Some t) (cond c (Some u) (cond d (Some w) None))) ≡ (b || (c || d))
@@ -67,64 +66,6 @@ module _ (nodes : List Node) (live : List ℕ) (i : ℕ) (more : i < length live
       at_drop_more (live_said nodes) live i 0 more
       ∙ ap (λ b. cond b (live_said nodes (drop (i + 1) live)) (Err (refused OutOfRange Store (get_or live i 0)))) r.0
       ∙ ap Err (sym r.1)
-
-  gather_more : (v room n : ℕ) (r : Result (Option Turned) Refusal) → r ≡ turned_said nodes v (get_or live i 0)
-      → gather_from nodes v room n (drop i live) ≡ gather_next room n (λ m. gather_from nodes v room m (drop (i + 1) live)) r
-  unfolding gather_from
-  gather_more v room n r h =
-      at_drop_more (gather_from nodes v room n) live i 0 more
-      ∙ ap (gather_next room n (λ m. gather_from nodes v room m (drop (i + 1) live))) (sym h)
-
--- ---- the entries in a table
-
-pub record Gathered (nodes : List Node) (live : List ℕ) (v room : ℕ) (found : List Turned) (n i : ℕ) : Type 0 where
-  pub said : gather_said nodes live v room ≡ gather_from nodes v room n (drop i live)
-  pub front : take n found ≡ around nodes (take i live) v
-  pub within : n ≤ length found
-  pub fits : length found ≡ room
-
-pub gathered_none : (nodes : List Node) (live : List ℕ) (v room : ℕ) (found : List Turned) → length found ≡ room → Gathered nodes live v room found 0 0
-unfolding around
-gathered_none nodes live v room found h = record { said = refl; front = refl; within = omega arith; fits = h }
-
-module _ (nodes : List Node) (live : List ℕ) (v room : ℕ) (found : List Turned) (n i : ℕ) (g : Gathered nodes live v room found n i) where
-  pub gathered_refused : (e : Refusal) → i < length live → Err e ≡ turned_said nodes v (get_or live i 0) → Err e ≡ gather_said nodes live v room
-  gathered_refused e more h = sym (g.said ∙ gather_more nodes live i more v room n _ h)
-
-  pub gathered_full : (t : Turned) → i < length live → Ok (Some t) ≡ turned_said nodes v (get_or live i 0) → length found ≤ n
-      → Err (refused TableTooShort Build 0) ≡ gather_said nodes live v room
-  gathered_full t more h full =
-      let fits = g.fits in
-      let no : nat_lt n room ≡ false = grind (arith, nat_tests) in
-      sym (g.said ∙ gather_more nodes live i more v room n _ h ∙ ap (λ b. cond b (gather_from nodes v room (n + 1) (drop (i + 1) live)) (Err (refused TableTooShort Build 0))) no)
-
-  pub gathered_more : (t : Turned) → i < length live → Ok (Some t) ≡ turned_said nodes v (get_or live i 0) → n < length found
-      → Gathered nodes live v room (set found n t) (n + 1) (i + 1)
-  gathered_more t more h inside =
-      let fits = g.fits in
-      let yes : nat_lt n room ≡ true = grind (arith, nat_tests) in
-      record {
-        said = g.said ∙ gather_more nodes live i more v room n _ h ∙ ap (λ b. cond b (gather_from nodes v room (n + 1) (drop (i + 1) live)) (Err (refused TableTooShort Build 0))) yes;
-        front = take_more_set found n t inside ∙ ap (λ xs. xs ++ t ∷ []) g.front ∙ sym (around_one nodes live i more v t (turned_node _ _ _ _ h));
-        within = rw length-set (omega arith);
-        fits = length-set found n t ∙ fits;
-      }
-
-  pub gathered_skip : i < length live → Ok None ≡ turned_said nodes v (get_or live i 0) → Gathered nodes live v room found n (i + 1)
-  gathered_skip more h =
-      record {
-        said = g.said ∙ gather_more nodes live i more v room n _ h;
-        front = g.front ∙ sym (around_none nodes live i more v (turned_node _ _ _ _ h));
-        within = g.within;
-        fits = g.fits;
-      }
-
-  pub gathered_all : length live ≤ i → (Ok n ≡ gather_said nodes live v room) × (take n found ≡ around nodes live v)
-  unfolding gather_from
-  gathered_all done = (
-    sym (g.said ∙ at_drop_all (gather_from nodes v room n) live i done),
-    g.front ∙ ap (λ l. around nodes l v) (take_all i live done),
-  )
 
 -- ---- the counts in a table
 
@@ -171,44 +112,6 @@ module _ (nodes : List Node) (live ds : List ℕ) (i : ℕ) (g : Counted nodes l
   counted_at done v l = g.counts v l ∙ ap (λ xs. min 65535 (degree nodes xs v)) (take_all i live done)
 
 -- ---- the theorems
-
-held : (b : Bool) (k : ℕ) (rest : Result (Unit {0}) Refusal) → cond b rest (Err (refused OutOfRange Store k)) ≡ Ok tt → (b ≡ true) × (rest ≡ Ok tt)
-held true k rest h = (refl, h)
-held false k rest h = cc
-
-one_told : (o : Option Turned) (nodes : List Node) (live : List ℕ) (v room n : ℕ)
-    → ((m : ℕ) → m + degree nodes live v ≤ room → gather_from nodes v room m live ≡ Ok (m + degree nodes live v))
-    → n + length (cons_option o (around nodes live v)) ≤ room
-    → gather_next room n (λ m. gather_from nodes v room m live) (Ok o) ≡ Ok (n + length (cons_option o (around nodes live v)))
-one_told (Some t) nodes live v room n next h =
-    let yes : nat_lt n room ≡ true = grind (arith, nat_tests) in
-    ap (λ b. cond b (gather_from nodes v room (n + 1) live) (Err (refused TableTooShort Build 0))) yes ∙ next (n + 1) (omega arith) ∙ ap Ok (omega arith)
-one_told None nodes live v room n next h = next n h
-
-all_told : (nodes : List Node) (v room : ℕ) (live : List ℕ) → live_said nodes live ≡ Ok tt → (n : ℕ) → n + degree nodes live v ≤ room
-    → gather_from nodes v room n live ≡ Ok (n + degree nodes live v)
-unfolding around live_said gather_from
-all_told nodes v room [] h n l = ap Ok (omega arith)
-all_told nodes v room (k ∷ live) h n l =
-    let r = held _ k _ h in
-    ap (λ b. gather_next room n (λ m. gather_from nodes v room m live) (cond b (Ok (turned_at nodes v k)) (Err (refused OutOfRange Store k)))) r.0
-    ∙ one_told (turned_at nodes v k) nodes live v room n (all_told nodes v room live r.1) l
-
-all_held : (nodes : List Node) (live : List ℕ) → AllHeld nodes live → live_said nodes live ≡ Ok tt
-unfolding live_said
-all_held nodes [] h = refl
-all_held nodes (k ∷ live) h =
-    ap (λ b. cond b (live_said nodes live) (Err (refused OutOfRange Store k))) (below k (length nodes) (All-head (λ k. k < length nodes) k live h))
-    ∙ all_held nodes live (All-tail (λ k. k < length nodes) k live h)
-  where
-    below : (k n : ℕ) → k < n → nat_lt k n ≡ true
-    below k n h = grind (arith, nat_tests)
-
-pub gather_tells : GatherTells
-gather_tells nodes live h = (
-  all_held nodes live h,
-  λ v room l. all_told nodes v room live (all_held nodes live h) 0 (omega arith) ∙ ap Ok (omega arith),
-)
 
 -- an entry has the number of its node
 numbered : (b c d : Bool) (k p q r s t u : ℕ)
