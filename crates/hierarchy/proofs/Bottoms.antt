@@ -3,7 +3,7 @@ use Rattle.std.proofs.Common.{◌≡◌, ℕ, suc, ◌+◌, ◌<◌, List, [], �
 use Rattle.std.specs.List.{flat_map, range_with_len}
 use Rattle.std.proofs.lemmas.List.{length-map}
 use Rattle.plane.specs.declared.Edge.{Edge}
-use Rattle.plane.specs.Edges.{In, edge, outside, ring_edges, sum}
+use Rattle.plane.specs.Edges.{In, edge, outside, ring_edges, sum_of}
 use Rattle.plane.specs.Points.{GridPoint, place_of}
 use Rattle.plane.proofs.Signs.{lin}
 use Rattle.tiling.specs.Lemmas.{Odd}
@@ -73,9 +73,9 @@ module _ (at : ℕ → GridPoint) (es : List Edge) where
       ]
 
   loops_sum : (f : Edge → ℤ) → Odd f → (rs : List Ring) (l : ℕ) (ns : List Node) → cut_loops at es l rs ≡ Ok ns
-      → sum (λ n. around f (shape n)) ns ≡ sum f (flat_map (λ (r : Ring). ring_edges r.corners) rs)
+      → sum_of (λ n. around f (shape n)) ns ≡ sum_of f (flat_map (λ (r : Ring). ring_edges r.corners) rs)
   unfolding cut_loops
-  loops_sum f odd [] l ns e = ap (sum (λ n. around f (shape n))) nothing
+  loops_sum f odd [] l ns e = ap (sum_of (λ n. around f (shape n))) nothing
     where
       nothing : ns ≡ []
       nothing = cc
@@ -86,8 +86,8 @@ module _ (at : ℕ → GridPoint) (es : List Edge) where
       let c = cut_sum f odd q.corners x.0 (cut_is_cut at q.corners x.0 x.2).cut in
       let d = loops_sum f odd rs (l + 1) x.1 x.3 in
       let g = sum-++ f (ring_edges q.corners) (flat_map (λ (r : Ring). ring_edges r.corners) rs) in
-      ap (sum (λ n. around f (shape n))) (sym x.4) ∙ a ∙ ap (λ (u : ℤ). u +ℤ sum (λ n. around f (shape n)) x.1) (b ∙ sym c)
-      ∙ ap (λ (u : ℤ). sum f (ring_edges q.corners) +ℤ u) d ∙ sym g
+      ap (sum_of (λ n. around f (shape n))) (sym x.4) ∙ a ∙ ap (λ (u : ℤ). u +ℤ sum_of (λ n. around f (shape n)) x.1) (b ∙ sym c)
+      ∙ ap (λ (u : ℤ). sum_of f (ring_edges q.corners) +ℤ u) d ∙ sym g
 
 flat_mapped : (rs : List Ring) → flat_map ring_edges (corners_of_rings rs) ≡ flat_map (λ (r : Ring). ring_edges r.corners) rs
 flat_mapped [] = refl
@@ -141,19 +141,19 @@ module _ (s : Sheet) (ns : List Node) (e : bottom_of s ≡ Ok ns) where
       (corner_within u (shape n) (loop_of (plane_of s) n.ring) ((loop_into n.ring l).within (shape n) h.cut) j)
 
   -- all edges but the border's cancel
-  pub bottom_sum : InOrder (plane_of s) → (f : Edge → ℤ) → Odd f → sum (λ n. around f (shape n)) ns ≡ sum f frame
+  pub bottom_sum : InOrder (plane_of s) → (f : Edge → ℤ) → Odd f → sum_of (λ n. around f (shape n)) ns ≡ sum_of f frame
   bottom_sum o f odd =
       let a = loops_sum at (edges_of s) f odd s.rings 0 ns looped in
       let b = paired_sum f odd (flat_map ring_edges (corners_of_rings s.rings) ++ outside) o.once o.paired in
       let c = sum-++ f (flat_map ring_edges (corners_of_rings s.rings)) outside in
-      let d = ap (sum f) (flat_mapped s.rings) in
+      let d = ap (sum_of f) (flat_mapped s.rings) in
       let e₀ = odd (edge 0 1) in
       let e₁ = odd (edge 1 2) in
       let e₂ = odd (edge 2 3) in
       let e₃ = odd (edge 3 0) in
       omega lin
 
-  pub live_sum : InOrder (plane_of s) → (f : Edge → ℤ) → Odd f → sum (λ k. around f (triangle_of ns k)) (range_with_len 0 (length ns)) ≡ sum f frame
+  pub live_sum : InOrder (plane_of s) → (f : Edge → ℤ) → Odd f → sum_of (λ k. around f (triangle_of ns k)) (range_with_len 0 (length ns)) ≡ sum_of f frame
   live_sum o f odd =
       sum_range (λ k. around f (triangle_of ns k)) (λ n. around f (shape n)) blank ns 0 (λ i l. ap (λ k. around f (triangle_of ns k)) (omega arith))
       ∙ bottom_sum o f odd

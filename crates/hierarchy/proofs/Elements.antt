@@ -4,7 +4,7 @@ use Rattle.std.specs.List.{filter, range_with_len, sum_by}
 use Rattle.std.specs.List.Sorted.{IsPermutation}
 use Rattle.std.proofs.lemmas.List.Sums.{sum_by-cons}
 use Rattle.std.proofs.lemmas.List.Sorted.{Contains-permutation, sum_by-IsPermutation}
-use Rattle.plane.specs.Edges.{In, sum}
+use Rattle.plane.specs.Edges.{In, sum_of}
 use Rattle.plane.proofs.Signs.{lin}
 use Rattle.tiling.proofs.Sheets.{in_get_or}
 
@@ -75,15 +75,15 @@ parts (pos n) = omega lin
 parts (negsuc n) = omega lin
 
 module _ {X : Type 0} where
-  pub sum_same : (f g : X → ℤ) (l : List X) → ((x : X) → In x l → f x ≡ g x) → sum f l ≡ sum g l
+  pub sum_same : (f g : X → ℤ) (l : List X) → ((x : X) → In x l → f x ≡ g x) → sum_of f l ≡ sum_of g l
   sum_same f g [] h = refl
   sum_same f g (x ∷ l) h = let a = h x (inl refl) in let b = sum_same f g l (λ y i. h y (inr i)) in omega lin
 
-  pub sum_zero : (f : X → ℤ) (l : List X) → ((x : X) → In x l → f x ≡ pos 0) → sum f l ≡ pos 0
+  pub sum_zero : (f : X → ℤ) (l : List X) → ((x : X) → In x l → f x ≡ pos 0) → sum_of f l ≡ pos 0
   sum_zero f [] h = refl
   sum_zero f (x ∷ l) h = let a = h x (inl refl) in let b = sum_zero f l (λ y i. h y (inr i)) in omega lin
 
-  pub sum_both : (f g : X → ℤ) (l : List X) → sum (λ x. f x +ℤ g x) l ≡ sum f l +ℤ sum g l
+  pub sum_both : (f g : X → ℤ) (l : List X) → sum_of (λ x. f x +ℤ g x) l ≡ sum_of f l +ℤ sum_of g l
   sum_both f g [] = refl
   sum_both f g (x ∷ l) = let h = sum_both f g l in omega lin
 
@@ -91,24 +91,24 @@ module _ {X : Type 0} where
   abbrev pub where_true : (X → Bool) → (X → ℤ) → X → ℤ
   where_true test f x = cond (test x) (f x) (pos 0)
 
-  one_kept : (f : X → ℤ) (x : X) (b : Bool) (l m : List X) (u : ℤ) → sum f m ≡ u → sum f (cond b (x ∷ m) m) ≡ cond b (f x) (pos 0) +ℤ u
+  one_kept : (f : X → ℤ) (x : X) (b : Bool) (l m : List X) (u : ℤ) → sum_of f m ≡ u → sum_of f (cond b (x ∷ m) m) ≡ cond b (f x) (pos 0) +ℤ u
   one_kept f x true l m u h = omega lin
   one_kept f x false l m u h = omega lin
 
-  pub sum_filter : (f : X → ℤ) (test : X → Bool) (l : List X) → sum f (filter test l) ≡ sum (where_true test f) l
+  pub sum_filter : (f : X → ℤ) (test : X → Bool) (l : List X) → sum_of f (filter test l) ≡ sum_of (where_true test f) l
   sum_filter f test [] = refl
-  sum_filter f test (x ∷ l) = one_kept f x (test x) l (filter test l) (sum (where_true test f) l) (sum_filter f test l)
+  sum_filter f test (x ∷ l) = one_kept f x (test x) l (filter test l) (sum_of (where_true test f) l) (sum_filter f test l)
 
   -- what passes a test and what does not
-  pub sum_split : (f : X → ℤ) (test : X → Bool) (l : List X) → sum f l ≡ sum (where_true test f) l +ℤ sum f (filter (λ x. not (test x)) l)
+  pub sum_split : (f : X → ℤ) (test : X → Bool) (l : List X) → sum_of f l ≡ sum_of (where_true test f) l +ℤ sum_of f (filter (λ x. not (test x)) l)
   sum_split f test l =
       sum_same f (λ x. where_true test f x +ℤ where_true (λ y. not (test y)) f x) l (λ x i. split_one (test x) (f x))
       ∙ sum_both (where_true test f) (where_true (λ y. not (test y)) f) l
-      ∙ ap (λ (u : ℤ). sum (where_true test f) l +ℤ u) (sym (sum_filter f (λ y. not (test y)) l))
+      ∙ ap (λ (u : ℤ). sum_of (where_true test f) l +ℤ u) (sym (sum_filter f (λ y. not (test y)) l))
 
   -- ---- in another order
 
-  sum_parts : (f : X → ℤ) (l : List X) → sum f l ≡ pos (sum_by (λ x. above (f x)) l) -ℤ pos (sum_by (λ x. below (f x)) l)
+  sum_parts : (f : X → ℤ) (l : List X) → sum_of f l ≡ pos (sum_by (λ x. above (f x)) l) -ℤ pos (sum_by (λ x. below (f x)) l)
   sum_parts f [] = refl
   sum_parts f (x ∷ l) =
       let h = sum_parts f l in
@@ -117,7 +117,7 @@ module _ {X : Type 0} where
       let b = sum_by-cons (λ y. below (f y)) x l in
       omega lin
 
-  pub sum_permuted : (f : X → ℤ) (l m : List X) → IsPermutation l m → sum f l ≡ sum f m
+  pub sum_permuted : (f : X → ℤ) (l m : List X) → IsPermutation l m → sum_of f l ≡ sum_of f m
   sum_permuted f l m p =
       let a = sum_parts f l in
       let b = sum_parts f m in
@@ -128,13 +128,13 @@ module _ {X : Type 0} where
   -- ---- by numbers
 
   pub sum_range : (g : ℕ → ℤ) (f : X → ℤ) (d : X) (m : List X) (a : ℕ) → ((i : ℕ) → i < length m → g (a + i) ≡ f (get_or m i d))
-      → sum g (range_with_len a (length m)) ≡ sum f m
+      → sum_of g (range_with_len a (length m)) ≡ sum_of f m
   sum_range g f d [] a h = refl
   sum_range g f d (x ∷ m) a h =
       let here : g a ≡ f x = ap g (omega arith) ∙ h 0 (omega arith) in
       let rest = sum_range g f d m (a + 1) (λ i l. ap g (omega arith) ∙ h (suc i) (omega arith)) in
       omega lin
 
-pub sum_map : {X Y : Type 0} (f : Y → ℤ) (g : X → Y) (l : List X) → sum f (map g l) ≡ sum (λ x. f (g x)) l
+pub sum_map : {X Y : Type 0} (f : Y → ℤ) (g : X → Y) (l : List X) → sum_of f (map g l) ≡ sum_of (λ x. f (g x)) l
 sum_map f g [] = refl
 sum_map f g (x ∷ l) = ap (λ (u : ℤ). f (g x) +ℤ u) (sum_map f g l)

@@ -4,7 +4,7 @@ use Rattle.std.specs.List.{filter, range_with_len}
 use Rattle.std.proofs.lemmas.Bool.{cases_lt}
 use Rattle.std.proofs.lemmas.List.{get_or-append-add, get_or-append_right, get_or-replicate, get_or_append_left, length-map, length-replicate}
 use Rattle.plane.specs.declared.Edge.{Edge}
-use Rattle.plane.specs.Edges.{In, sum}
+use Rattle.plane.specs.Edges.{In, sum_of}
 use Rattle.plane.specs.Points.{GridPoint, Spot}
 use Rattle.plane.proofs.Signs.{lin}
 use Rattle.tiling.specs.Lemmas.{Odd}
@@ -86,7 +86,7 @@ pub record Kept (at : ℕ → GridPoint) (vertices : ℕ) (ns nodes : List Node)
   pub named : (k : ℕ) → k < length nodes → (u : ℕ) → In u (corners (triangle_of nodes k)) → u < vertices
   pub ascending : Ascends 0 live
   pub alive : (k : ℕ) → In k live → k < length nodes
-  pub total : (f : Edge → ℤ) → Odd f → sum (λ k. around f (triangle_of nodes k)) live ≡ sum f frame
+  pub total : (f : Edge → ℤ) → Odd f → sum_of (λ k. around f (triangle_of nodes k)) live ≡ sum_of f frame
   pub dated : length made ≡ length nodes
   pub past : (k : ℕ) → k < length nodes → get_or made k 0 ≤ r
   pub grown : length ns ≤ length nodes
@@ -193,19 +193,19 @@ module _ (at : ℕ → GridPoint) (vertices : ℕ) (ns nodes : List Node) (live 
   abbrev now : List Node
   now = nodes ++ fresh
 
-  new_sum : (g : Edge → ℤ) → sum (λ k. around g (triangle_of now k)) (range_with_len (length nodes) f.fresh) ≡ sum (λ x. around g (shape x)) fresh
+  new_sum : (g : Edge → ℤ) → sum_of (λ k. around g (triangle_of now k)) (range_with_len (length nodes) f.fresh) ≡ sum_of (λ x. around g (shape x)) fresh
   new_sum g =
-      ap (λ k. sum (λ k. around g (triangle_of now k)) (range_with_len (length nodes) k)) found.fresh
+      ap (λ k. sum_of (λ k. around g (triangle_of now k)) (range_with_len (length nodes) k)) found.fresh
       ∙ sum_range (λ k. around g (triangle_of now k)) (λ x. around g (shape x)) blank fresh (length nodes)
       (λ i l. ap (λ x. around g (shape x)) (get_or-append-add nodes fresh i blank))
 
-  old_sum : (g : Edge → ℤ) → sum (λ k. around g (triangle_of now k)) (filter (λ k. not (goes at nodes live f.marks k)) live)
-      ≡ sum (λ k. around g (triangle_of nodes k)) (filter (λ k. not (goes at nodes live f.marks k)) live)
+  old_sum : (g : Edge → ℤ) → sum_of (λ k. around g (triangle_of now k)) (filter (λ k. not (goes at nodes live f.marks k)) live)
+      ≡ sum_of (λ k. around g (triangle_of nodes k)) (filter (λ k. not (goes at nodes live f.marks k)) live)
   old_sum g =
       sum_same (λ k. around g (triangle_of now k)) (λ k. around g (triangle_of nodes k)) (filter (λ k. not (goes at nodes live f.marks k)) live)
       (λ k i. ap (λ x. around g (shape x)) (node_before nodes fresh k (h.alive k (in_filter (λ k. not (goes at nodes live f.marks k)) k live i).0)))
 
-  same_total : (g : Edge → ℤ) → Odd g → sum (λ k. around g (triangle_of now k)) (rounded_live at nodes live f) ≡ sum (λ k. around g (triangle_of nodes k)) live
+  same_total : (g : Edge → ℤ) → Odd g → sum_of (λ k. around g (triangle_of now k)) (rounded_live at nodes live f) ≡ sum_of (λ k. around g (triangle_of nodes k)) live
   same_total g odd =
       let a = sum-++ (λ k. around g (triangle_of now k)) (filter (λ k. not (goes at nodes live f.marks k)) live) (range_with_len (length nodes) f.fresh) in
       let b = old_sum g in

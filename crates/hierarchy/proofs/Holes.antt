@@ -3,7 +3,7 @@ use Rattle.std.proofs.Common.{◌≡◌, ℕ, ◌<◌, Bool, true, false, List, 
 use Rattle.std.specs.List.Sorted.{IsPermutation}
 use Rattle.std.proofs.lemmas.List.Sorted.{IsPermutation-sym}
 use Rattle.plane.specs.declared.Edge.{Edge}
-use Rattle.plane.specs.Edges.{In, ring_edges, sum}
+use Rattle.plane.specs.Edges.{In, ring_edges, sum_of}
 use Rattle.plane.specs.Points.{GridPoint, Spot}
 use Rattle.plane.proofs.Signs.{lin}
 use Rattle.tiling.specs.Lemmas.{Odd}
@@ -144,14 +144,14 @@ module _ (at : ℕ → GridPoint) (nodes : List Node) (live : List ℕ) (marks :
 
   -- they have the sum of the live nodes with corner v
   pub closing_sum : (f : Edge → ℤ) → Odd f
-      → sum (λ n. around f (shape n)) (closing at nodes live v)
-      ≡ sum (where_true (λ k. is_some (turned_at nodes v k)) (λ k. around f (triangle_of nodes k))) live
+      → sum_of (λ n. around f (shape n)) (closing at nodes live v)
+      ≡ sum_of (where_true (λ k. is_some (turned_at nodes v k)) (λ k. around f (triangle_of nodes k))) live
   closing_sum f odd =
-      ap (sum (λ n. around f (shape n))) (closes at nodes live marks v c)
+      ap (sum_of (λ n. around f (shape n))) (closes at nodes live marks v c)
       ∙ sum_map (λ n. around f (shape n)) (hole_node at nodes live (nodes_of c.es)) c.ts
       ∙ sym (cut_sum f odd (ring_of c.es) c.ts cut_into.cut)
       ∙ sym (fan_sum f odd v (ring_of c.es))
-      ∙ ap (sum (around f)) (sym closed_ring)
+      ∙ ap (sum_of (around f)) (sym closed_ring)
       ∙ sum_map (around f) (λ (t : Turned). triangle v t.next t.last) c.es
       ∙ sum_same (λ (t : Turned). around f (triangle v t.next t.last)) (λ (t : Turned). around f (triangle_of nodes t.node)) c.es
       (λ t i. sym ((entry_same t i).around_is f))

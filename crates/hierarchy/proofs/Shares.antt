@@ -2,7 +2,7 @@
 use Rattle.std.proofs.Common.{◌≡◌, ℕ, zero, suc, ◌+◌, ◌<◌, ◌≤◌, Bool, true, false, cond, ◌||◌, List, [], length, ℤ, pos, ◌+ℤ◌, is_some, sym, refl, ap, ◌∙◌, inl, inr, arith}
 use Rattle.std.proofs.lemmas.Bool.{both_ways, cases_eq, cases_order, or_cases, or_parts}
 use Rattle.plane.specs.declared.Edge.{Edge}
-use Rattle.plane.specs.Edges.{In, sum}
+use Rattle.plane.specs.Edges.{In, sum_of}
 use Rattle.plane.specs.Points.{GridPoint}
 use Rattle.plane.proofs.Signs.{lin}
 use Rattle.tiling.specs.Lemmas.{Odd}
@@ -36,19 +36,19 @@ module _ (at : ℕ → GridPoint) (nodes : List Node) (live : List ℕ) (marks :
   module _ (choice : (w : ℕ) → is_marked marks w ≡ true → Choice at nodes live marks w) where
     -- the nodes that close the holes have the sum of what the vertices take
     one_sum : (f : Edge → ℤ) → Odd f → (v : ℕ) (b : Bool) → is_marked marks v ≡ b
-        → sum (λ n. around f (shape n)) (cond b (closing at nodes live v) []) ≡ sum (λ j. cond b (where_true (takes v) (number f) j) (pos 0)) live
+        → sum_of (λ n. around f (shape n)) (cond b (closing at nodes live v) []) ≡ sum_of (λ j. cond b (where_true (takes v) (number f) j) (pos 0)) live
     one_sum f odd v true h = closing_sum at nodes live marks v (choice v h) f odd
     one_sum f odd v false h = sym (sum_zero (λ j. pos 0) live (λ j i. refl))
 
-    pub closings_sum : (f : Edge → ℤ) → Odd f → (k v : ℕ) → sum (λ n. around f (shape n)) (closings at nodes live marks k v) ≡ sum (shares (number f) k v) live
+    pub closings_sum : (f : Edge → ℤ) → Odd f → (k v : ℕ) → sum_of (λ n. around f (shape n)) (closings at nodes live marks k v) ≡ sum_of (shares (number f) k v) live
     unfolding closings shares
     closings_sum f odd zero v = sym (sum_zero (λ j. pos 0) live (λ j i. refl))
     closings_sum f odd (suc k) v =
         let a = sum-++ (λ n. around f (shape n)) (cond (is_marked marks v) (closing at nodes live v) []) (closings at nodes live marks k (v + 1)) in
         let b = one_sum f odd v (is_marked marks v) refl in
         let c = closings_sum f odd k (v + 1) in
-        a ∙ ap (λ (u : ℤ). u +ℤ sum (λ n. around f (shape n)) (closings at nodes live marks k (v + 1))) b
-        ∙ ap (λ (u : ℤ). sum (share (number f) v) live +ℤ u) c
+        a ∙ ap (λ (u : ℤ). u +ℤ sum_of (λ n. around f (shape n)) (closings at nodes live marks k (v + 1))) b
+        ∙ ap (λ (u : ℤ). sum_of (share (number f) v) live +ℤ u) c
         ∙ sym (sum_both (share (number f) v) (shares (number f) k (v + 1)) live)
 
     -- each of them closes the hole of a chosen vertex

@@ -4,7 +4,7 @@ use Rattle.std.specs.List.{range_with_len}
 use Rattle.std.proofs.lemmas.Bool.{cases_lt}
 use Rattle.std.proofs.lemmas.List.{length-replicate}
 use Rattle.plane.specs.Crossings.{crossing_sum, edge_crossing}
-use Rattle.plane.specs.Edges.{In, sum}
+use Rattle.plane.specs.Edges.{In, sum_of}
 use Rattle.plane.specs.Points.{GridPoint, Spot, is_on_sheet, place_of}
 use Rattle.plane.proofs.Signs.{lin}
 use Rattle.tiling.specs.Order.{InOrder}
@@ -104,7 +104,7 @@ module _ (s : Sheet) (nodes : List Node) (live made : List ℕ) (r : ℕ) (m : M
     | inr i ↦ (keeps.later k i l).most
   ]
 
-  counts : (p : Spot) → sum (λ k. turns (place_of (points_of s)) p (triangle_of nodes k)) live ≡ crossing_sum (place_of (points_of s)) (0 ∷ 1 ∷ 2 ∷ 3 ∷ []) p
+  counts : (p : Spot) → sum_of (λ k. turns (place_of (points_of s)) p (triangle_of nodes k)) live ≡ crossing_sum (place_of (points_of s)) (0 ∷ 1 ∷ 2 ∷ 3 ∷ []) p
   counts p = keeps.total (edge_crossing (place_of (points_of s)) p) (crossing_odd (place_of (points_of s)) p)
 
   abbrev live_triangles : List Triangle
@@ -113,7 +113,7 @@ module _ (s : Sheet) (nodes : List Node) (live made : List ℕ) (r : ℕ) (m : M
   live_leftward : AllLeftward (place_of (points_of s)) live_triangles
   live_leftward t i = let x = map_in (triangle_of nodes) t live i in subst (Leftward (place_of (points_of s))) x.2 (keeps.leftward x.0 (keeps.alive x.0 x.1))
 
-  inside_counts : (q : Spot) → pos 0 <ℤ q.Z → Within (plane_of s) in_order q → sum (turns (place_of (points_of s)) q) live_triangles ≡ pos 1
+  inside_counts : (q : Spot) → pos 0 <ℤ q.Z → Within (plane_of s) in_order q → sum_of (turns (place_of (points_of s)) q) live_triangles ≡ pos 1
   inside_counts q z i =
       let o = in_order in
       sum_map (turns (place_of (points_of s)) q) (triangle_of nodes) live ∙ counts q

@@ -1,7 +1,7 @@
 -- What is claimed of the nodes that cutting a checked sheet and rounds over it make.
 use Rattle.std.specs.Prelude.{◌≡◌, ℕ, ◌+◌, ◌<◌, ◌≤◌, true, List, [], ◌∷◌, length, slice_index, pos, ◌<ℤ◌, None, Ok}
 use Rattle.plane.specs.Crossings.{crossing_sum}
-use Rattle.plane.specs.Edges.{In, sum}
+use Rattle.plane.specs.Edges.{In, sum_of}
 use Rattle.plane.specs.Points.{Spot, is_on_sheet, place_of}
 use Rattle.tiling.specs.Order.{Triangulated}
 use Rattle.tiling.specs.Triangles.{Leftward, closed_holds, corners, turns}
@@ -43,7 +43,7 @@ abbrev pub LiveCountsAsBorder : Type 0
 LiveCountsAsBorder =
     (s : Sheet) (nodes : List Node) (live made : List ℕ) (rounds : ℕ) → Made s nodes live made rounds
     → (p : Spot) → pos 0 <ℤ p.Z
-    → sum (λ k. turns (place_of (points_of s)) p (triangle_of nodes k)) live ≡ crossing_sum (place_of (points_of s)) (0 ∷ 1 ∷ 2 ∷ 3 ∷ []) p
+    → sum_of (λ k. turns (place_of (points_of s)) p (triangle_of nodes k)) live ≡ crossing_sum (place_of (points_of s)) (0 ∷ 1 ∷ 2 ∷ 3 ∷ []) p
 
 -- some live node's closed triangle holds each point of the closed sheet
 abbrev pub LiveCovers : Type 0

@@ -1,7 +1,7 @@
 -- How often the edges of a loop pass a point on its right, counted up and down.
 use Rattle.std.specs.Prelude.{ℕ, cond, ◌&&◌, List, ℤ, pos, negsuc, ◌*ℤ◌, int_le, int_lt}
 use Rattle.plane.specs.declared.Edge.{Edge}
-use Rattle.plane.specs.Edges.{ring_edges, sum}
+use Rattle.plane.specs.Edges.{ring_edges, sum_of}
 use Rattle.plane.specs.Points.{GridPoint, Spot, det}
 
 -- an edge from one height to another, at a height y, with the determinant d:
@@ -20,4 +20,4 @@ edge_crossing at p e = crossing (at e.from) (at e.to) p
 
 -- the crossing sum of a loop about p
 abbrev pub crossing_sum : (ℕ → GridPoint) → List ℕ → Spot → ℤ
-crossing_sum at cs p = sum (edge_crossing at p) (ring_edges cs)
+crossing_sum at cs p = sum_of (edge_crossing at p) (ring_edges cs)

@@ -38,6 +38,6 @@ Once [] = Unit {0}
 Once (x ∷ l) = (¬ (In x l)) × Once l
 
 -- the sum of a number for each element
-abbrev pub sum : {X : Type 0} → (X → ℤ) → List X → ℤ
-sum f [] = pos 0
-sum f (x ∷ l) = f x +ℤ sum f l
+abbrev pub sum_of : {X : Type 0} → (X → ℤ) → List X → ℤ
+sum_of f [] = pos 0
+sum_of f (x ∷ l) = f x +ℤ sum_of f l

@@ -4,7 +4,7 @@ use Rattle.std.specs.List.{list_any, position_or_len, range_with_len}
 use Rattle.std.specs.Option.{option_map}
 use Rattle.std.proofs.lemmas.List.{length-map}
 use Rattle.plane.specs.declared.Edge.{Edge}
-use Rattle.plane.specs.Edges.{ring_edges, sum}
+use Rattle.plane.specs.Edges.{ring_edges, sum_of}
 use Rattle.clash.specs.Clashes.{first_clash_in}
 use Rattle.sheet.specs.Sheets.{Ring, Sheet, edges_of, loops_from, loops_of, points_of}
 use Rattle.rules.specs.Held.{loop_edges, loops_broken_at, starts_at, sum_broken_at, triangles_at, turns_broken_at, vertices_broken_at}
@@ -65,7 +65,7 @@ module _ (s : Sheet) where
   vertices_same = λ i. option_map (λ k. 4 + k) (position (λ v. not (names_same v i)) (range_with_len 4 (length s.inner)))
 
   turns_same : turns_broken_at (points_of s) (edges_of s) (loops_of s) ≡ turns_broken s
-  turns_same = position_same _ _ (loops_of s) s.rings (rows (λ es. not (int_lt (pos 0) (sum (swept (place_of (points_of s))) es))) s)
+  turns_same = position_same _ _ (loops_of s) s.rings (rows (λ es. not (int_lt (pos 0) (sum_of (swept (place_of (points_of s))) es))) s)
 
 pub tables_tell : TablesTell
 tables_tell s = rw (sum_same s, loops_same s, vertices_same s, turns_same s)

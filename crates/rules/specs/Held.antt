@@ -5,7 +5,7 @@ use Rattle.std.specs.List.{list_any, range_with_len}
 use Rattle.std.specs.Option.{option_map}
 use Rattle.plane.specs.declared.Point.{Point}
 use Rattle.plane.specs.declared.Edge.{Edge}
-use Rattle.plane.specs.Edges.{back, same_edge, sum}
+use Rattle.plane.specs.Edges.{back, same_edge, sum_of}
 use Rattle.plane.specs.Points.{place_of, same_point}
 use Rattle.refusal.specs.declared.Cause.TheVariants.{LoopSum, SamePoint, VertexTwice, EdgeTwice, NoReverse, VertexUnused, EdgesTouch, LoopTurned}
 use Rattle.refusal.specs.declared.Refusal.{Refusal}
@@ -53,7 +53,7 @@ abbrev pub strokes_broken_at : List Point → List Edge → Option ℕ
 strokes_broken_at ps es = later_of (first_clash_in (touch (place_of ps)) (first_listed [] es))
 
 abbrev pub turns_broken_at : List Point → List Edge → List Loop → Option ℕ
-turns_broken_at ps es ls = position (λ l. not (int_lt (pos 0) (sum (swept (place_of ps)) (loop_edges es l)))) ls
+turns_broken_at ps es ls = position (λ l. not (int_lt (pos 0) (sum_of (swept (place_of ps)) (loop_edges es l)))) ls
 
 -- the first rule that the tables break, at its first place
 abbrev pub first_broken_at : ℕ → List Point → List Edge → List Loop → Option Refusal

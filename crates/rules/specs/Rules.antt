@@ -3,7 +3,7 @@ use Rattle.std.specs.Prelude.{ℕ, ◌+◌, ◌-◌, ◌*◌, Bool, not, cond, �
 use Rattle.std.specs.List.{list_any, range_with_len}
 use Rattle.std.specs.Option.{option_map}
 use Rattle.plane.specs.declared.Edge.{Edge}
-use Rattle.plane.specs.Edges.{back, ring_edges, same_edge, sum}
+use Rattle.plane.specs.Edges.{back, ring_edges, same_edge, sum_of}
 use Rattle.plane.specs.Points.{GridPoint, det, on_segment, place_of, same_point, spot_at}
 use Rattle.refusal.specs.declared.Cause.{Cause}
 use Rattle.refusal.specs.declared.Cause.TheVariants.{LoopSum, SamePoint, VertexTwice, EdgeTwice, NoReverse, VertexUnused, EdgesTouch, LoopTurned}
@@ -102,7 +102,7 @@ swept at e = (at e.from).x *ℤ (at e.to).y -ℤ (at e.to).x *ℤ (at e.from).y
 
 -- twice the signed area of a loop
 abbrev pub signed_area : (ℕ → GridPoint) → List ℕ → ℤ
-signed_area at cs = sum (swept at) (ring_edges cs)
+signed_area at cs = sum_of (swept at) (ring_edges cs)
 
 -- 20: every loop's signed area is above 0
 abbrev pub turns_broken : Sheet → Option ℕ

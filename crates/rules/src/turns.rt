@@ -1,6 +1,6 @@
 //! The rule over the areas of the loops.
 ghost use Rattle.std.specs.Prelude.{◌≡◌, ◌≤◌, ◌<◌, ◌^◌, ◌*◌, int_lt, length, pos, unsigned_abs};
-ghost use Rattle.plane.specs.Edges.{sum};
+ghost use Rattle.plane.specs.Edges.{sum_of};
 ghost use Rattle.rules.specs.Held.{loop_edges as loop_edges_of, turns_broken_at};
 ghost use Rattle.plane.specs.Points.{place_of};
 ghost use Rattle.rules.specs.Rules.{swept as swept_by};
@@ -29,7 +29,7 @@ fn product(u: u16, v: u16) -> i64
 // Twice the signed area inside a loop's edges.
 fn signed_area(points: &[Point], edges: &[Edge]) -> i64
     requires { length edges.now ≤ 65535 }
-    ensures { result ≡ sum (swept_by (place_of points.now)) edges.now }
+    ensures { result ≡ sum_of (swept_by (place_of points.now)) edges.now }
 {
     let mut area = 0;
     for edge in edges {
@@ -40,7 +40,7 @@ fn signed_area(points: &[Point], edges: &[Edge]) -> i64
 
 // Whether a loop's signed area is above 0.
 fn is_turned_left(points: &[Point], edges: &[Edge], item: &Loop) -> bool
-    ensures { result ≡ int_lt (pos 0) (sum (swept_by (place_of points.now)) (loop_edges_of edges.now item.now)) }
+    ensures { result ≡ int_lt (pos 0) (sum_of (swept_by (place_of points.now)) (loop_edges_of edges.now item.now)) }
 {
     0 < signed_area(points, loop_edges(edges, item))
 }

@@ -6,7 +6,7 @@ use Rattle.std.specs.Option.{option_eq}
 use Rattle.std.proofs.lemmas.Bool.{eqb-true, cases_Bool, cases_eq, cond-true, cond-false}
 use Rattle.refusal.specs.declared.Refusal.{Refusal}
 use Rattle.sheet.specs.declared.tables.Label.{Label}
-use Rattle.sheet.specs.Files.{find, find_wanted, label, labelled, labels, Marked}
+use Rattle.sheet.specs.Files.{label_with, find_wanted, label, labelled, labels, Marked}
 use Rattle.reader.specs.Kinds as kind
 use Rattle.reader.specs.Reading.{and_then, several}
 
@@ -14,14 +14,14 @@ labelled_push : (m : ℕ) (ls : List Label) (l : Label) → labelled m (ls ++ l 
 labelled_push m [] l = elim (eqb m l.numeral) as (λ b. cond b true false ≡ b) [ true ↦ refl | false ↦ refl ]
 labelled_push m (k ∷ ls) l = elim (eqb m k.numeral) as (λ b. cond b true (labelled m (ls ++ l ∷ [])) ≡ cond (cond b true (labelled m ls)) true (eqb m l.numeral)) [ true ↦ refl | false ↦ labelled_push m ls l ]
 
-find_push : (m : ℕ) (ls : List Label) (l : Label) → find m (ls ++ l ∷ []) ≡ cond (labelled m ls) (find m ls) (cond (eqb m l.numeral) (Some l) None)
+find_push : (m : ℕ) (ls : List Label) (l : Label) → label_with m (ls ++ l ∷ []) ≡ cond (labelled m ls) (label_with m ls) (cond (eqb m l.numeral) (Some l) None)
 find_push m [] l = refl
-find_push m (k ∷ ls) l = elim (eqb m k.numeral) as (λ b. cond b (Some k) (find m (ls ++ l ∷ [])) ≡ cond (cond b true (labelled m ls)) (cond b (Some k) (find m ls)) (cond (eqb m l.numeral) (Some l) None)) [ true ↦ refl | false ↦ find_push m ls l ]
+find_push m (k ∷ ls) l = elim (eqb m k.numeral) as (λ b. cond b (Some k) (label_with m (ls ++ l ∷ [])) ≡ cond (cond b true (labelled m ls)) (cond b (Some k) (label_with m ls)) (cond (eqb m l.numeral) (Some l) None)) [ true ↦ refl | false ↦ find_push m ls l ]
 
-find_none : (m : ℕ) (ls : List Label) → labelled m ls ≡ false → find m ls ≡ None
+find_none : (m : ℕ) (ls : List Label) → labelled m ls ≡ false → label_with m ls ≡ None
 find_none m [] h = refl
 find_none m (k ∷ ls) h =
-    (elim (eqb m k.numeral) as (λ b. cond b true (labelled m ls) ≡ false → cond b (Some k) (find m ls) ≡ None)
+    (elim (eqb m k.numeral) as (λ b. cond b true (labelled m ls) ≡ false → cond b (Some k) (label_with m ls) ≡ None)
     [ true ↦ λ e. absurd (clash (sym e)) | false ↦ λ e. find_none m ls e ])
     h
 
@@ -66,7 +66,7 @@ module _ (wanted : Option ℕ) (flags : List Bool) (found : Option Label) (ls : 
       ∙ sym (p ∙ ap (λ b. cond (labelled m ls) true b) t ∙ elim (labelled m ls) as (λ b. cond b true false ≡ b) [ true ↦ refl | false ↦ refl ]))
       (cases_eq m l.numeral)
 
-  found_same : (found' : Option Label) → found' ≡ Some l → found' ≡ find l.numeral (ls ++ l ∷ [])
+  found_same : (found' : Option Label) → found' ≡ Some l → found' ≡ label_with l.numeral (ls ++ l ∷ [])
   found_same found' s = s ∙ sym (find_push l.numeral ls l ∙ cond-false _ _ _ new ∙ cond-true _ _ _ (eq-eqb l.numeral l.numeral refl))
 
   pub found_here : (flags' : List Bool) (found' : Option Label) → flags' ≡ set flags l.numeral true → wanted ≡ Some l.numeral → found' ≡ Some l → Found wanted flags' found' (ls ++ l ∷ [])
@@ -75,14 +75,14 @@ module _ (wanted : Option ℕ) (flags : List Bool) (found : Option Label) (ls : 
   pub found_other : (flags' : List Bool) → flags' ≡ set flags l.numeral true → wanted ≢ Some l.numeral → Found wanted flags' found (ls ++ l ∷ [])
   found_other flags' e h = record { marked = rw e marks; finds = f.finds ∙ same wanted h }
     where
-      as_before : (m : ℕ) (ks : List Label) → cond (labelled m ks) (find m ks) None ≡ find m ks
+      as_before : (m : ℕ) (ks : List Label) → cond (labelled m ks) (label_with m ks) None ≡ label_with m ks
       as_before m ks = ⊎_elim (λ t. cond-true _ _ _ t) (λ t. cond-false _ _ _ t ∙ sym (find_none m ks t)) (cases_Bool (labelled m ks))
 
       same : (w : Option ℕ) → w ≢ Some l.numeral → find_wanted w ls ≡ find_wanted w (ls ++ l ∷ [])
       same None n = refl
       same (Some m) n =
           let t : eqb m l.numeral ≡ false = ne_eqb m l.numeral (λ q. n (ap Some q)) in
-          sym (find_push m ls l ∙ ap (λ o. cond (labelled m ls) (find m ls) o) (cond-false _ _ _ t) ∙ as_before m ls)
+          sym (find_push m ls l ∙ ap (λ o. cond (labelled m ls) (label_with m ls) o) (cond-false _ _ _ t) ∙ as_before m ls)
 
 module _ {Y : Type 0} (file : List ℕ) (at : ℕ) (go : List Label → Result Y Refusal) where
   module _ (n at₁ : ℕ) (file₁ : List ℕ) (h₁ : Ok (n, at₁) ≡ kind.count 255 file at) (f₁ : file₁ ≡ file) where

@@ -40,14 +40,14 @@ labelled m [] = false
 labelled m (l ∷ ls) = cond (m == l.numeral) true (labelled m ls)
 
 -- the label of a numeral, if there is one
-abbrev pub find : ℕ → List Label → Option Label
-find m [] = None
-find m (l ∷ ls) = cond (m == l.numeral) (Some l) (find m ls)
+abbrev pub label_with : ℕ → List Label → Option Label
+label_with m [] = None
+label_with m (l ∷ ls) = cond (m == l.numeral) (Some l) (label_with m ls)
 
 -- the label that is wanted, if one is and if there is one
 abbrev pub find_wanted : Option ℕ → List Label → Option Label
 find_wanted None ls = None
-find_wanted (Some m) ls = find m ls
+find_wanted (Some m) ls = label_with m ls
 
 -- a label, behind other labels: a numeral that none of them has, the length of the wording, and it
 unfoldable pub label : List ℕ → List Label → ℕ → Read Label

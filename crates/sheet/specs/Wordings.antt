@@ -7,7 +7,7 @@ use Rattle.sheet.specs.declared.answer.Answer.{Answer}
 use Rattle.sheet.specs.declared.answer.Answer.TheVariants.{Vertex, OpenEdge, Face}
 use Rattle.sheet.specs.declared.tables.Label.{Label}
 use Rattle.sheet.specs.declared.tables.Loop.{Loop}
-use Rattle.sheet.specs.Files.{contents, find}
+use Rattle.sheet.specs.Files.{contents, label_with}
 use Rattle.reader.specs.Kinds.{part}
 use Rattle.reader.specs.Reading.{and_then}
 use Rattle.sheet.specs.Numerals.{some_numeral}
@@ -32,7 +32,7 @@ numeral_of rs (Some l) = numeral_at rs l
 
 -- the label of a numeral; 0 means that there is none
 abbrev pub label_of : ℕ → List Label → Option Label
-label_of m ls = cond (m == 0) None (find m ls)
+label_of m ls = cond (m == 0) None (label_with m ls)
 
 -- the numeral of a table's entry, where it has one
 abbrev pub numeral_of_entry : Option Loop → Option ℕ

@@ -4,7 +4,7 @@ use Rattle.std.specs.List.{flat_map}
 use Rattle.std.proofs.lemmas.Int.{by_lt_z}
 use Rattle.plane.specs.declared.Edge.{Edge}
 use Rattle.plane.specs.Crossings.{edge_crossing}
-use Rattle.plane.specs.Edges.{In, sum}
+use Rattle.plane.specs.Edges.{In, sum_of}
 use Rattle.plane.specs.Points.{GridPoint, Spot}
 use Rattle.plane.proofs.Passings.{crossing_back}
 use Rattle.plane.proofs.Signs.{lin}
@@ -67,7 +67,7 @@ module _ (at : ℕ → GridPoint) where
   -- ---- what is covered inside is covered on the border too
 
   module _ (es : List Edge) (g : Spot) (onward : pos 0 <ℤ g.Z) (within : Left es g) (cs : List Triangle) (k : AllLeftward at cs)
-      (counted : (q : Spot) → pos 0 <ℤ q.Z → Left es q → pos 0 <ℤ sum (turns at q) cs) where
+      (counted : (q : Spot) → pos 0 <ℤ q.Z → Left es q → pos 0 <ℤ sum_of (turns at q) cs) where
     pub covers : (p : Spot) → pos 0 <ℤ p.Z → NotRight es p → (c : Triangle) × In c cs × NotRight (sides c) p
     covers p z h =
         let n = nudge at (es ++ flat_map sides cs) p g z onward in
@@ -86,7 +86,7 @@ module _ (at : ℕ → GridPoint) where
         )
 
   -- two lists of triangles with the same sums: what a closed one of the first holds, a closed one of the second holds
-  pub same_sums_cover : (ts cs : List Triangle) → AllLeftward at ts → AllLeftward at cs → ((f : Edge → ℤ) → Odd f → sum (around f) ts ≡ sum (around f) cs)
+  pub same_sums_cover : (ts cs : List Triangle) → AllLeftward at ts → AllLeftward at cs → ((f : Edge → ℤ) → Odd f → sum_of (around f) ts ≡ sum_of (around f) cs)
       → (t : Triangle) → In t ts → (p : Spot) → pos 0 <ℤ p.Z → NotRight (sides t) p → (c : Triangle) × In c cs × NotRight (sides c) p
   same_sums_cover ts cs k l same t i p z h =
       let m = has_middle at t (k t i) in

@@ -3,7 +3,7 @@ use Rattle.std.proofs.Common.{◌≡◌, ◌⊎◌, List, [], ◌∷◌, ◌++�
 use mathlib.Core.Logic.{⊎_map}
 use Rattle.std.proofs.lemmas.Int.{by_lt_z}
 use Rattle.std.specs.List.{flat_map}
-use Rattle.plane.specs.Edges.{In, Once, sum}
+use Rattle.plane.specs.Edges.{In, Once, sum_of}
 use Rattle.plane.proofs.Signs.{lin}
 
 module _ {X : Type 0} where
@@ -21,7 +21,7 @@ module _ {X : Type 0} where
   in_split x (y ∷ l) m (inl e) = inl (inl e)
   in_split x (y ∷ l) m (inr i) = ⊎_map inr (λ j. j) (in_split x l m i)
 
-  pub sum-++ : (f : X → ℤ) (l m : List X) → sum f (l ++ m) ≡ sum f l +ℤ sum f m
+  pub sum-++ : (f : X → ℤ) (l m : List X) → sum_of f (l ++ m) ≡ sum_of f l +ℤ sum_of f m
   sum-++ f [] m = omega lin
   sum-++ f (x ∷ l) m = let h = sum-++ f l m in omega lin
 
@@ -34,7 +34,7 @@ module _ {X : Type 0} where
   pub turned_in : (x y : X) (l : List X) → In x (l ++ y ∷ []) → In x (y ∷ l)
   turned_in x y l i = elim (in_split x l (y ∷ []) i) [ inl j ↦ inr j | inr (inl e) ↦ inl e | inr (inr n) ↦ absurd n ]
 
-  pub sum_turned : (f : X → ℤ) (y : X) (l : List X) → sum f (l ++ y ∷ []) ≡ sum f (y ∷ l)
+  pub sum_turned : (f : X → ℤ) (y : X) (l : List X) → sum_of f (l ++ y ∷ []) ≡ sum_of f (y ∷ l)
   sum_turned f y l = let h = sum-++ f l (y ∷ []) in omega lin
 
   pub once_turned : (y : X) (l : List X) → Once (y ∷ l) → Once (l ++ y ∷ [])
@@ -62,9 +62,9 @@ module _ {X Y : Type 0} where
     | inr j ↦ let r = joined_in g y l j in (r.0, inr r.1, r.2)
   ]
 
-  pub sum_joined : (f : Y → ℤ) (g : X → List Y) (l : List X) → sum f (flat_map g l) ≡ sum (λ x. sum f (g x)) l
+  pub sum_joined : (f : Y → ℤ) (g : X → List Y) (l : List X) → sum_of f (flat_map g l) ≡ sum_of (λ x. sum_of f (g x)) l
   sum_joined f g [] = refl
-  sum_joined f g (x ∷ l) = sum-++ f (g x) (flat_map g l) ∙ ap (λ (s : ℤ). sum f (g x) +ℤ s) (sum_joined f g l)
+  sum_joined f g (x ∷ l) = sum-++ f (g x) (flat_map g l) ∙ ap (λ (s : ℤ). sum_of f (g x) +ℤ s) (sum_joined f g l)
 
 -- ---- sums of numbers that are not negative
 
@@ -72,18 +72,18 @@ module _ {X : Type 0} (f : X → ℤ) where
   abbrev Low : List X → Type 0
   Low l = (x : X) → In x l → pos 0 ≤ℤ f x
 
-  pub sum_low : (l : List X) → Low l → pos 0 ≤ℤ sum f l
+  pub sum_low : (l : List X) → Low l → pos 0 ≤ℤ sum_of f l
   sum_low [] h = omega lin
   sum_low (x ∷ l) h = let i = h x (inl refl) in let j = sum_low l (λ y k. h y (inr k)) in omega lin
 
   -- each is at most the sum
-  pub sum_has : (l : List X) → Low l → (x : X) → In x l → f x ≤ℤ sum f l
+  pub sum_has : (l : List X) → Low l → (x : X) → In x l → f x ≤ℤ sum_of f l
   sum_has [] h x i = absurd i
   sum_has (y ∷ l) h x (inl e) = let j = sum_low l (λ z k. h z (inr k)) in let k = ap f e in omega lin
   sum_has (y ∷ l) h x (inr i) = let j = h y (inl refl) in let k = sum_has l (λ z m. h z (inr m)) x i in omega lin
 
   -- and so are two, if they are not one
-  pub sum_two : (l : List X) → Low l → (x y : X) → In x l → In y l → (x ≡ y) ⊎ ((f x +ℤ f y) ≤ℤ sum f l)
+  pub sum_two : (l : List X) → Low l → (x y : X) → In x l → In y l → (x ≡ y) ⊎ ((f x +ℤ f y) ≤ℤ sum_of f l)
   sum_two [] h x y i j = absurd i
   sum_two (z ∷ l) h x y (inl e) (inl d) = inl (e ∙ sym d)
   sum_two (z ∷ l) h x y (inl e) (inr j) = let k = sum_has l (λ u m. h u (inr m)) y j in let n = ap f e in inr (omega lin)
@@ -91,7 +91,7 @@ module _ {X : Type 0} (f : X → ℤ) where
   sum_two (z ∷ l) h x y (inr i) (inr j) = elim (sum_two l (λ u m. h u (inr m)) x y i j) [ inl e ↦ inl e | inr q ↦ inr (let k = h z (inl refl) in omega lin) ]
 
   -- a sum above 0 has a number above 0
-  pub sum_some : (l : List X) → pos 0 <ℤ sum f l → (x : X) × In x l × (pos 0 <ℤ f x)
+  pub sum_some : (l : List X) → pos 0 <ℤ sum_of f l → (x : X) × In x l × (pos 0 <ℤ f x)
   sum_some [] h = absurd (omega lin)
   sum_some (x ∷ l) h =
       by_lt_z (pos 0) (f x) (λ (i : pos 0 <ℤ f x). (x, inl refl, i))

@@ -3,7 +3,7 @@ use Rattle.std.proofs.Common.{◌≡◌, ℕ, ◌⊎◌, List, ◌++◌, ℤ, po
 use Rattle.std.proofs.lemmas.Int.{by_lt_z}
 use Rattle.plane.specs.declared.Edge.{Edge}
 use Rattle.plane.specs.Crossings.{edge_crossing}
-use Rattle.plane.specs.Edges.{In, back, edge, sum}
+use Rattle.plane.specs.Edges.{In, back, edge, sum_of}
 use Rattle.plane.specs.Points.{GridPoint, Spot, area}
 use Rattle.plane.proofs.Determinants.{identities}
 use Rattle.plane.proofs.Signs.{lin, times->>}
@@ -84,7 +84,7 @@ module _ (at : ℕ → GridPoint) where
 
 pub record Tiles (at : ℕ → GridPoint) (ts : List Triangle) : Type 0 where
   pub leftward : AllLeftward at ts
-  pub once : (p : Spot) → pos 0 <ℤ p.Z → sum (turns at p) ts ≤ℤ pos 1
+  pub once : (p : Spot) → pos 0 <ℤ p.Z → sum_of (turns at p) ts ≤ℤ pos 1
 
 module _ {at : ℕ → GridPoint} {ts : List Triangle} (T : Tiles at ts) where
   only : (p : Spot) → pos 0 <ℤ p.Z → (s t : Triangle) → In s ts → In t ts → turns at p s ≡ pos 1 → turns at p t ≡ pos 1 → s ≡ t

@@ -3,7 +3,7 @@ use Rattle.std.proofs.Common.{◌≡◌, suc, ◌≤◌, ◌⊎◌, List, [], �
 use mathlib.Core.Logic.{⊎_map}
 use lib.ListN.{length-map}
 use Rattle.plane.specs.declared.Edge.{Edge}
-use Rattle.plane.specs.Edges.{In, Once, back, sum}
+use Rattle.plane.specs.Edges.{In, Once, back, sum_of}
 use Rattle.plane.proofs.Signs.{lin}
 use Rattle.tiling.specs.Lemmas.{Odd, PairedSum}
 use Rattle.tiling.proofs.Lists.{in_map}
@@ -13,7 +13,7 @@ module _ {X : Type 0} where
   record Without (x : X) (l : List X) : Type 0 where
     rest : List X
     shorter : length l ≡ suc (length rest)
-    sums : (f : X → ℤ) → sum f l ≡ f x +ℤ sum f rest
+    sums : (f : X → ℤ) → sum_of f l ≡ f x +ℤ sum_of f rest
     others : (y : X) → In y l → (y ≡ x) ⊎ In y rest
 
   without : (x : X) (l : List X) → In x l → Without x l
@@ -21,7 +21,7 @@ module _ {X : Type 0} where
   without x (y ∷ l) (inl e) = record {
     rest = l;
     shorter = refl;
-    sums = λ f. ap (λ (z : X). f z +ℤ sum f l) (sym e);
+    sums = λ f. ap (λ (z : X). f z +ℤ sum_of f l) (sym e);
     others = λ z. elim [ inl h ↦ inl (h ∙ sym e) | inr j ↦ inr j ];
   }
   without x (y ∷ l) (inr i) = let o = without x l i in record {
@@ -32,7 +32,7 @@ module _ {X : Type 0} where
   }
 
   -- a list that holds all of l and is no longer than l has the sum of l, if no element of l stands twice
-  same_sum : (f : X → ℤ) (l m : List X) → Once l → ((x : X) → In x l → In x m) → length m ≤ length l → sum f l ≡ sum f m
+  same_sum : (f : X → ℤ) (l m : List X) → Once l → ((x : X) → In x l → In x m) → length m ≤ length l → sum_of f l ≡ sum_of f m
   same_sum f [] [] o s n = refl
   same_sum f [] (y ∷ m) o s n = absurd (omega arith)
   same_sum f (x ∷ l) m o s n =
@@ -44,7 +44,7 @@ module _ {X : Type 0} where
       ] in
       ap (λ (t : ℤ). f x +ℤ t) (same_sum f l w.rest o.1 kept (omega arith)) ∙ sym (w.sums f)
 
-sum_backs : (f : Edge → ℤ) → Odd f → (l : List Edge) → sum f (map back l) ≡ neg_ℤ (sum f l)
+sum_backs : (f : Edge → ℤ) → Odd f → (l : List Edge) → sum_of f (map back l) ≡ neg_ℤ (sum_of f l)
 sum_backs f odd [] = refl
 sum_backs f odd (e ∷ l) = let h = odd e in let k = sum_backs f odd l in omega lin
 

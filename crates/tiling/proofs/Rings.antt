@@ -1,7 +1,7 @@
 -- The edges of a ring of corners: where they begin and end, and that it does not matter where the ring begins.
 use Rattle.std.proofs.Common.{◌≡◌, ℕ, List, [], ◌∷◌, ◌++◌, ℤ, sym, refl, ap, ◌∙◌, inl, inr, append_assoc}
 use Rattle.plane.specs.declared.Edge.{Edge}
-use Rattle.plane.specs.Edges.{In, edge, links, ring_edges, sum}
+use Rattle.plane.specs.Edges.{In, edge, links, ring_edges, sum_of}
 use Rattle.tiling.proofs.Lists.{in_turned, turned_in, sum_turned}
 
 -- one corner more at the end of a path
@@ -13,9 +13,9 @@ links_end u v w (x ∷ l) = ap (λ (es : List Edge). edge u x ∷ es) (links_end
 ring_turned : (v w : ℕ) (l : List ℕ) → ring_edges (w ∷ l ++ v ∷ []) ≡ links (w ∷ l ++ v ∷ []) ++ edge v w ∷ []
 ring_turned v w l = ap (λ (vs : List ℕ). links (w ∷ vs)) (append_assoc l (v ∷ []) (w ∷ [])) ∙ links_end w v w l
 
-pub ring_turned_sum : (f : Edge → ℤ) (v : ℕ) (l : List ℕ) → sum f (ring_edges (v ∷ l)) ≡ sum f (ring_edges (l ++ v ∷ []))
+pub ring_turned_sum : (f : Edge → ℤ) (v : ℕ) (l : List ℕ) → sum_of f (ring_edges (v ∷ l)) ≡ sum_of f (ring_edges (l ++ v ∷ []))
 ring_turned_sum f v [] = refl
-ring_turned_sum f v (w ∷ l) = sym (ap (sum f) (ring_turned v w l) ∙ sum_turned f (edge v w) (links (w ∷ l ++ v ∷ [])))
+ring_turned_sum f v (w ∷ l) = sym (ap (sum_of f) (ring_turned v w l) ∙ sum_turned f (edge v w) (links (w ∷ l ++ v ∷ [])))
 
 pub in_ring_turned : (e : Edge) (v : ℕ) (l : List ℕ) → In e (ring_edges (v ∷ l)) → In e (ring_edges (l ++ v ∷ []))
 in_ring_turned e v [] i = i

@@ -4,7 +4,7 @@ use Rattle.std.specs.List.{flat_map}
 use Rattle.std.proofs.lemmas.Bool.{cases_eq}
 use Rattle.plane.specs.declared.Edge.{Edge}
 use Rattle.plane.specs.Crossings.{crossing_sum, edge_crossing}
-use Rattle.plane.specs.Edges.{In, back, edge, ring_edges, sum}
+use Rattle.plane.specs.Edges.{In, back, edge, ring_edges, sum_of}
 use Rattle.plane.specs.Points.{Spot}
 use Rattle.plane.proofs.Signs.{lin}
 use Rattle.tiling.specs.Cells.{Subdivision, listed}
@@ -39,18 +39,18 @@ numbers_in k zero i a = absurd a
 numbers_in k (suc n) i (inl e) = omega arith
 numbers_in k (suc n) i (inr a) = let h = numbers_in (suc k) n i a in omega arith
 
-sum_shift : (f : ℕ → ℤ) (k n : ℕ) → sum f (numbers (suc k) n) ≡ sum (λ i. f (suc i)) (numbers k n)
+sum_shift : (f : ℕ → ℤ) (k n : ℕ) → sum_of f (numbers (suc k) n) ≡ sum_of (λ i. f (suc i)) (numbers k n)
 unfolding numbers
 sum_shift f k zero = refl
 sum_shift f k (suc n) = ap (λ (x : ℤ). f (suc k) +ℤ x) (sum_shift f (suc k) n)
 
 -- a sum over the elements is a sum over their numbers
-sum_numbered : {X : Type 0} (f : X → ℤ) (d : X) (l : List X) → sum f l ≡ sum (λ i. f (get_or l i d)) (numbers 0 (length l))
+sum_numbered : {X : Type 0} (f : X → ℤ) (d : X) (l : List X) → sum_of f l ≡ sum_of (λ i. f (get_or l i d)) (numbers 0 (length l))
 unfolding numbers
 sum_numbered f d [] = refl
 sum_numbered f d (x ∷ l) = ap (λ (y : ℤ). f x +ℤ y) (sum_numbered f d l ∙ sym (sum_shift (λ i. f (get_or (x ∷ l) i d)) 0 (length l)))
 
-sum_same : {X : Type 0} (f g : X → ℤ) (l : List X) → ((x : X) → In x l → f x ≡ g x) → sum f l ≡ sum g l
+sum_same : {X : Type 0} (f g : X → ℤ) (l : List X) → ((x : X) → In x l → f x ≡ g x) → sum_of f l ≡ sum_of g l
 sum_same f g [] h = refl
 sum_same f g (x ∷ l) h = let a = h x (inl refl) in let b = sum_same f g l (λ y i. h y (inr i)) in omega lin
 
@@ -158,16 +158,16 @@ module _ (s : Subdivision) (triangles : ℕ → List Triangle) (o : InOrder s) (
 
   module _ (f : Edge → ℤ) (odd : Odd f) where
     -- the loops have the sum of the triangles
-    loops_sum : sum f (inner s) ≡ sum (around f) all
+    loops_sum : sum_of f (inner s) ≡ sum_of (around f) all
     unfolding all
     loops_sum =
         sum_joined f ring_edges s.loops
-        ∙ sum_numbered (λ l. sum f (ring_edges l)) [] s.loops
-        ∙ sum_same (λ l. sum f (ring_edges (loop_of s l))) (λ l. sum (around f) (triangles l)) rows (λ l i. cut_sum f odd (loop_of s l) (triangles l) (g.cut l (row_below l i)))
+        ∙ sum_numbered (λ l. sum_of f (ring_edges l)) [] s.loops
+        ∙ sum_same (λ l. sum_of f (ring_edges (loop_of s l))) (λ l. sum_of (around f) (triangles l)) rows (λ l i. cut_sum f odd (loop_of s l) (triangles l) (g.cut l (row_below l i)))
         ∙ sym (sum_joined (around f) triangles rows)
 
     -- and of the border, since all other edges cancel
-    pub border_sum : sum (around f) all ≡ sum f frame
+    pub border_sum : sum_of (around f) all ≡ sum_of f frame
     border_sum =
         let a = loops_sum in
         let b = paired_sum f odd (listed s) o.once o.paired in
@@ -179,15 +179,15 @@ module _ (s : Subdivision) (triangles : ℕ → List Triangle) (o : InOrder s) (
         omega lin
 
   module _ (p : Spot) (z : pos 0 <ℤ p.Z) where
-    counted : sum (turns s.at p) all ≡ crossing_sum s.at (0 ∷ 1 ∷ 2 ∷ 3 ∷ []) p
+    counted : sum_of (turns s.at p) all ≡ crossing_sum s.at (0 ∷ 1 ∷ 2 ∷ 3 ∷ []) p
     counted = border_sum (edge_crossing s.at p) (crossing_odd s.at p)
 
-    once : sum (turns s.at p) all ≤ℤ pos 1
+    once : sum_of (turns s.at p) all ≤ℤ pos 1
     once =
         let e = counted in
         elim (rectangle_counts s.at s.width s.height o.wide o.high o.corner_0 o.corner_1 o.corner_2 o.corner_3 p z).bit [ inl h ↦ omega lin | inr h ↦ omega lin ]
 
-    inside_once : Within s o p → sum (turns s.at p) all ≡ pos 1
+    inside_once : Within s o p → sum_of (turns s.at p) all ≡ pos 1
     inside_once i =
         counted
         ∙ (rectangle_counts s.at s.width s.height o.wide o.high o.corner_0 o.corner_1 o.corner_2 o.corner_3 p z
@@ -217,7 +217,7 @@ module _ (s : Subdivision) (triangles : ℕ → List Triangle) (o : InOrder s) (
 
   module _ (p : Spot) (z : pos 0 <ℤ p.Z) where
     abbrev count : ℕ → ℤ
-    count l = sum (turns s.at p) (triangles l)
+    count l = sum_of (turns s.at p) (triangles l)
 
     pub loop_count : (l : ℕ) → l < length s.loops → crossing_sum s.at (loop_of s l) p ≡ count l
     loop_count l h = cut_sum (edge_crossing s.at p) (crossing_odd s.at p) (loop_of s l) (triangles l) (g.cut l h)
@@ -228,7 +228,7 @@ module _ (s : Subdivision) (triangles : ℕ → List Triangle) (o : InOrder s) (
     rows_low : (l : ℕ) → In l rows → pos 0 ≤ℤ count l
     rows_low l i = sum_low (turns s.at p) (triangles l) (low l (row_below l i))
 
-    total : sum (turns s.at p) all ≡ sum count rows
+    total : sum_of (turns s.at p) all ≡ sum_of count rows
     unfolding all
     total = sum_joined (turns s.at p) triangles rows
 

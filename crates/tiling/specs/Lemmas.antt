@@ -2,7 +2,7 @@
 use Rattle.std.specs.Prelude.{◌≡◌, ℕ, true, ◌⊎◌, List, [], ◌∷◌, ℤ, pos, ◌+ℤ◌, ◌*ℤ◌, neg_ℤ, ◌<ℤ◌}
 use Rattle.plane.specs.declared.Edge.{Edge}
 use Rattle.plane.specs.Crossings.{crossing_sum}
-use Rattle.plane.specs.Edges.{In, Once, back, ring_edges, sum}
+use Rattle.plane.specs.Edges.{In, Once, back, ring_edges, sum_of}
 use Rattle.plane.specs.Points.{GridPoint, Spot, between}
 use Rattle.tiling.specs.Cuts.{Cut}
 use Rattle.tiling.specs.Order.{grid}
@@ -45,15 +45,15 @@ Odd f = (e : Edge) → f (back e) ≡ neg_ℤ (f e)
 
 -- a polygon has the sum of the triangles of its cut
 abbrev pub CutSum : Type 0
-CutSum = (f : Edge → ℤ) → Odd f → (l : List ℕ) (ts : List Triangle) → Cut l ts → sum f (ring_edges l) ≡ sum (around f) ts
+CutSum = (f : Edge → ℤ) → Odd f → (l : List ℕ) (ts : List Triangle) → Cut l ts → sum_of f (ring_edges l) ≡ sum_of (around f) ts
 
 -- a closed fan has the sum of its ring
 abbrev pub FanSum : Type 0
-FanSum = (f : Edge → ℤ) → Odd f → (v : ℕ) (ring : List ℕ) → sum (around f) (fan v ring) ≡ sum f (ring_edges ring)
+FanSum = (f : Edge → ℤ) → Odd f → (v : ℕ) (ring : List ℕ) → sum_of (around f) (fan v ring) ≡ sum_of f (ring_edges ring)
 
 -- edges that stand with their reverses, none twice, have the sum 0
 abbrev pub PairedSum : Type 0
-PairedSum = (f : Edge → ℤ) → Odd f → (l : List Edge) → Once l → ((e : Edge) → In e l → In (back e) l) → sum f l ≡ pos 0
+PairedSum = (f : Edge → ℤ) → Odd f → (l : List Edge) → Once l → ((e : Edge) → In e l → In (back e) l) → sum_of f l ≡ pos 0
 
 -- ---- the sides of a cut
 

@@ -2,7 +2,7 @@
 use Rattle.std.specs.Prelude.{ℕ, Bool, ◌&&◌, List, [], ◌∷◌, map, ℤ, pos, ◌<ℤ◌, int_le}
 use Rattle.plane.specs.declared.Edge.{Edge}
 use Rattle.plane.specs.Crossings.{edge_crossing}
-use Rattle.plane.specs.Edges.{In, edge, ring_edges, sum}
+use Rattle.plane.specs.Edges.{In, edge, ring_edges, sum_of}
 use Rattle.plane.specs.Points.{GridPoint, Spot, area, det}
 
 pub record Triangle : Type 0 where
@@ -22,7 +22,7 @@ sides t = ring_edges (corners t)
 
 -- the sum of a number for each side
 abbrev pub around : (Edge → ℤ) → Triangle → ℤ
-around f t = sum f (sides t)
+around f t = sum_of f (sides t)
 
 module _ (at : ℕ → GridPoint) where
   -- on which side of an edge p is
