@@ -57,6 +57,12 @@ def stuck_loops(s):
     checked(s, SPRING)
     rename(s, 0, [4, 5, 6, 4])
     s.do("cut", "refused 21 3 0")
+    # 1 lies in each of the triangles 0 1 4 and 4 1 2 of which it is a corner, once
+    # more; 4 lies in 2 0 1 and in 1 2 0, and 1 4 1 has no area.
+    s.note("21: a corner named twice: at its other position it counts, as any other")
+    checked(s, eight([(6, 3)], [[0, 1, 4, 2, 3], [1, 2, 4]]))
+    rename(s, 0, [0, 1, 4, 1, 2])
+    s.do("cut", "refused 21 3 0")
     s.note("21: 6 at the point of 4: such a corner counts, whatever its point")
     checked(s, row(8, 8, [(2, 3), (4, 3), (5, 5), (6, 6)]))
     alter(s, "points", 6, "2 3")

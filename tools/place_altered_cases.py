@@ -110,14 +110,20 @@ def every_node(s):
 
 def tops(s):
     spring_again(s)
-    s.note("27: a top number past the nodes, if it is come to; other tops")
+    s.note("27: a top entry past the nodes or one that does not ascend, if it is come to; other tops")
     for first, second, expected in (
             (18, 17, wrong(0)), (65535, 17, wrong(0)), (16, 18, TOLD), (16, 65535, TOLD),
-            (8, 18, wrong(0)), (8, 9, wrong(0)), (8, 11, wrong(0)), (8, 1, found(0, 4)),
+            (8, 18, wrong(1)), (8, 65535, wrong(1)), (8, 8, wrong(1)), (8, 1, wrong(1)),
+            (8, 9, wrong(0)), (8, 11, wrong(0)),
             (1, 17, found(0, 3)), (12, 12, found(0, 6)), (17, 16, found(0, 20))):
         alter(s, "live", 0, first)
         alter(s, "live", 1, second)
         place(s, TIP, expected)
+    s.note("the upper one first: told where the tip is not in it, and the lower one twice")
+    place(s, (1, 9), wrong(1))
+    alter(s, "live", 0, 16)
+    place(s, (11, 1), wrong(1))
+    place(s, (1, 9), "ok 2 3 7 tests 6")
     s.note("25 and 26 come before it; entries past the count are not looked at")
     alter(s, "live", 0, 65535)
     keeps(s, "place 6 5", wrong(0))
@@ -193,18 +199,39 @@ def corners(s):
     put(s, 14, other(14, 2, 8, 0, 0, 9))
     place(s, TIP, wrong(14))
     mend(s, 14)
-    s.note("a corner that no tested side has is not looked at")
+    s.note("a corner is looked at also where no side that ends at it is tested")
     put(s, 16, other(16, 2, 65535))
     for tip in ((6, 5), (1, 1), (11, 1), (11, 9), (1, 9)):
-        place(s, tip)
+        place(s, tip, wrong(16))
     mend(s, 16)
-    s.note("any coordinate is a number that the kernels take: the points as they stand")
-    for v in (2, 7, 1, 5, 6):
-        for x, y in ((8191, 8191), (8192, 3), (3, 65535), (65535, 65535)):
+    s.note("27: an inner vertex that is not strictly inside the sheet, if a node that is come to has it")
+    # The nodes that (6, 5) comes to have all inner vertices but 4 as corners.
+    for v in (4, 5, 6, 7):
+        for x, y in ((3, 10), (3, 0), (0, 3), (12, 3), (13, 3), (3, 11), (8191, 8191),
+                     (8192, 3), (3, 65535), (60000, 60000), (65535, 65535)):
+            alter(s, "points", v, f"{x} {y}")
+            place(s, TIP, TOLD if v == 4 else wrong(v))
+            place(s, (9, 14, 3), wrong(4) if v == 4 else None)
+            place(s, (1, 1), wrong(4) if v == 4 else None)
+        for x, y in ((1, 1), (11, 9), (1, 9), (11, 1)):
             alter(s, "points", v, f"{x} {y}")
             place(s, TIP)
-            place(s, (9, 14, 3))
         repair(s, "points", v)
+    s.note("the corners of the sheet are known: their entries are not read")
+    for v in range(4):
+        for x, y in ((0, 0), (6, 5), (13, 11), (65535, 65535)):
+            alter(s, "points", v, f"{x} {y}")
+            place(s, TIP, TOLD)
+            place(s, (9, 14, 3), "ok 2 4 7 tests 12")
+        repair(s, "points", v)
+    s.note("a corner that is no vertex, then where a vertex is, corner by corner")
+    alter(s, "points", 5, "12 3")
+    for a, b, c, expected in ((8, 5, 1, wrong(4)), (5, 8, 1, wrong(5)), (5, 1, 8, wrong(5)),
+                              (1, 5, 8, wrong(5)), (1, 8, 5, wrong(4)), (1, 2, 5, wrong(5))):
+        put(s, 4, other(4, 0, a, b, c))
+        place(s, TIP, expected)
+    mend(s, 4)
+    repair(s, "points", 5)
 
 
 def bottoms(s):

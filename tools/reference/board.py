@@ -186,7 +186,8 @@ class Board:
             return Refusal(25, PLACE_LAYER, position)
         if not on_sheet(tip, self.width, self.height):
             return Refusal(26, PLACE_LAYER, position)
-        found = walked(self.held()[0], self.nodes, self.live_nodes(), self.loops, tip)
+        found = walked(self.width, self.height, self.held()[0], self.nodes,
+                       self.live_nodes(), self.loops, tip)
         self.compare(tip, found)
         return Refusal(27, PLACE_LAYER, found) if isinstance(found, int) else found
 

@@ -55,12 +55,12 @@ def triangle_at(corners, i):
 
 
 def is_ear(points, corners, i):
-    triangle = triangle_at(corners, i)
-    # Others are told apart by their number: one with the number of a, b or c
-    # does not count, one at the point of a, b or c does.
+    triangle, n = triangle_at(corners, i), len(corners)
+    # The other corners are those at other positions, whatever their numbers.
+    own = {(i - 1) % n, i, (i + 1) % n}
     return (turn(points, *triangle) > 0 and
             not any(holds(points, triangle, v)
-                    for v in corners if v not in triangle))
+                    for j, v in enumerate(corners) if j not in own))
 
 
 def cutting(points, corners):

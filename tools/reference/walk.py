@@ -23,42 +23,65 @@ class Altered(Exception):
 class Walk:
     """A tip on its way down; `tests` counts the sides that were tested."""
 
-    def __init__(self, points, nodes, loops, tip):
+    def __init__(self, width, height, points, nodes, loops, tip):
+        self.width, self.height = width, height
         self.points, self.nodes, self.loops = points, nodes, loops
         self.tip = tip
         self.tests = 0
 
+    def place_of(self, v):
+        """Where a vertex is. The corners of the sheet are known; an inner
+        vertex is read, and lies strictly inside."""
+        if v < 4:
+            return [(0, 0), (self.width, 0), (self.width, self.height), (0, self.height)][v]
+        x, y = self.points[v]
+        if not (0 < x < self.width and 0 < y < self.height):
+            raise Altered(v)
+        return x, y
+
     def side(self, a, b):
-        return side(self.tip, self.points[a], self.points[b])
+        return side(self.tip, self.place_of(a), self.place_of(b))
 
     def holds(self, number):
+        """All three corners are looked at, one after another, and then the sides."""
         a, b, c = self.nodes[number].corners
-        for p, q in ((a, b), (b, c), (c, a)):
-            if max(p, q) >= len(self.points):
+        for v in (a, b, c):
+            if v >= len(self.points):
                 raise Altered(number)
+            self.place_of(v)
+        for p, q in ((a, b), (b, c), (c, a)):
             self.tests += 1
             if self.side(p, q) == -1:
                 return False
         return True
 
-    def first_holding(self, numbers, bound, place):
-        """The first of these nodes that holds the tip; where one is not below
-        the bound, or none holds it, the place is told."""
-        for number in numbers:
-            if number >= bound:
-                raise Altered(place)
+    def top(self, tops):
+        """The first top node that holds the tip. Each entry that is come to names
+        a node, and one above the entry before it."""
+        for i, number in enumerate(tops):
+            if number >= len(self.nodes) or i > 0 and number <= tops[i - 1]:
+                raise Altered(i)
             if self.holds(number):
                 return number
-        raise Altered(place)
+        raise Altered(0)
+
+    def child(self, number):
+        """The first child of a node that holds the tip."""
+        node = self.nodes[number]
+        if node.count > MOST_CHILDREN:
+            raise Altered(number)
+        for child in node.children[:node.count]:
+            if child >= number:
+                raise Altered(number)
+            if self.holds(child):
+                return child
+        raise Altered(number)
 
     def bottom(self, tops):
         """The number of the bottom node that the walk comes to."""
-        number = self.first_holding(tops, len(self.nodes), 0)
+        number = self.top(tops)
         while self.nodes[number].count > 0:
-            node = self.nodes[number]
-            if node.count > MOST_CHILDREN:
-                raise Altered(number)
-            number = self.first_holding(node.children[:node.count], number, number)
+            number = self.child(number)
         return number
 
     def told(self, number):
@@ -77,9 +100,9 @@ class Walk:
         return FACE, node.loop, 0
 
 
-def walked(points, nodes, tops, loops, tip):
+def walked(width, height, points, nodes, tops, loops, tip):
     """The answer and the count of tests; or the place that is wrong, as an int."""
-    walk = Walk(points, nodes, loops, tip)
+    walk = Walk(width, height, points, nodes, loops, tip)
     try:
         return walk.told(walk.bottom(tops)), walk.tests
     except Altered as altered:

@@ -1,5 +1,5 @@
 -- The law over histories.
-use Rattle.std.proofs.Common.{◌≡◌, ℕ, zero, suc, ◌+◌, ◌*◌, ◌<◌, ◌≤◌, ◌⊎◌, Bool, true, false, cond, List, [], ◌∷◌, Some, None, Option, Ok, Err, Result, length, take, drop, nat_le, IfOk, refl, sym, ap, ◌∙◌, subst, inl, inr, arith}
+use Rattle.std.proofs.Common.{◌≡◌, ℕ, zero, suc, ◌+◌, ◌*◌, ◌/◌, ◌<◌, ◌≤◌, ◌⊎◌, Bool, true, false, cond, List, [], ◌∷◌, Some, None, Option, Ok, Err, Result, length, take, drop, min, nat_le, IfOk, refl, sym, ap, ◌∙◌, subst, inl, inr, arith}
 use Rattle.std.specs.List.{All, slice_get}
 use Rattle.std.proofs.Math.Seq.{take-append_seam}
 use Rattle.std.proofs.lemmas.Bool.{cases_Bool, cond-false, cond-true}
@@ -15,7 +15,7 @@ use Rattle.sheet.specs.declared.answer.Answer.TheVariants.{Face, OpenEdge, Verte
 use Rattle.sheet.specs.Sheets.{Sheet, points_of, size_of}
 use Rattle.tiling.specs.Cells.{Cell, cell_holds}
 use Rattle.rules.specs.Planes.{plane_of}
-use Rattle.hierarchy.specs.Falls.{digits}
+use Rattle.hierarchy.specs.Falls.{digits, digits_within}
 use Rattle.hierarchy.proofs.Falls.{rounds_are_few}
 use Rattle.placing.specs.Placings.{Names, list_said, place_said}
 use Rattle.placing.proofs.Listing.{list_at, list_length}
@@ -27,9 +27,11 @@ use Rattle.board.specs.Histories.{Event, History, Runs, State, Step, Told, Turn,
 use Rattle.board.specs.Histories.Runs.{begin, turn}
 use Rattle.board.specs.Histories.Told.{answered, granted, listed, refused}
 use Rattle.board.specs.Histories.Turn.{check, cut, list, load, place, round, seal, wipe}
-use Rattle.board.specs.Law.{Exactly, WalkFinds, Given, Handed, IsSealOf, Law, LawOfHistories, ListRight, OneCell, Right, RightNext, Seal, is_granted, seal_of, seal_then, standing}
+use Rattle.board.specs.Law.{Entered, Exactly, WalkFinds, Given, Handed, IsSealOf, Law, LawOfHistories, Led, ListRight, OneCell, Right, RightNext, Seal, SealFew, is_granted, rounds_since, seal_of, seal_then, standing}
 use Rattle.board.specs.Turns.{bare, is_layered, is_sealed, list_answers, lists, live_of, places, points_in, round_room, seals}
+use Rattle.board.proofs.Listing.{ok_same}
 use Rattle.board.proofs.Known.{Known, Sealing, is_layering, is_sealing, known}
+use Rattle.board.proofs.Serving.{keeps, none_at, only, scaled_at, served, some_same}
 use Rattle.board.proofs.Standing.{passed_by, points_same}
 
 -- ---- one answer
@@ -68,16 +70,6 @@ module _ (h : History) (s : State) (k : Known h s) (on : is_sealed s.board.stage
 
 -- ---- the answers of one turn
 
-scaled_at : (tips : List (Option Spot)) (j : ℕ) (tip : Option Spot) → All Scaled tips → slice_get tips j ≡ Some tip → Scaled tip
-scaled_at tips j tip all at = subst Scaled (get_or_from_slice_get tips j tip tip at) (all j tip (slice_get_within tips j tip at))
-
-only : {X : Type 0} (x y : X) (j : ℕ) → slice_get (x ∷ []) j ≡ Some y → x ≡ y
-only x y zero h = cc
-only x y (suc j) h = cc
-
-none_at : {X : Type 0} (y : X) (j : ℕ) → slice_get {X = X} [] j ≡ Some y → ⊥
-none_at y j h = cc
-
 answer_is : (x : Result Found Refusal) (f : Found) → answered_by x ≡ answered f → x ≡ Ok f
 answer_is (Ok g) f h = cc
 answer_is (Err e) f h = cc
@@ -85,9 +77,6 @@ answer_is (Err e) f h = cc
 list_is : (x : Result (List (Result Found Refusal)) Refusal) (es : List (Result Found Refusal)) → listed_by x ≡ listed es → x ≡ Ok es
 list_is (Ok fs) es h = cc
 list_is (Err e) es h = cc
-
-ok_same : (x y : List (Result Found Refusal)) → ◌≡◌ {A = Result (List (Result Found Refusal)) Refusal} (Ok x) (Ok y) → x ≡ y
-ok_same x y e = cc
 
 not_listed : {X : Type 0} (x : Result Found Refusal) (es : List (Result Found Refusal)) → listed es ≡ answered_by x → X
 not_listed (Ok f) es h = cc
@@ -233,9 +222,6 @@ one_answer (Face l) (Vertex u) h = cc
 one_answer (Face l) (OpenEdge u v) h = cc
 one_answer (Face l) (Face m) h = cc
 
-some_same : {X : Type 0} (o : Option X) (x y : X) → o ≡ Some x → o ≡ Some y → x ≡ y
-some_same o x y h k = cc
-
 two_answers : (x : Seal) (t u : Option Spot) (f g : Found) → Right x t f → Right x u g → Exactly (f.answer ≡ g.answer) (OneCell x t u)
 two_answers x t u f g a b =
     let sheet : b.sheet ≡ a.sheet = some_same x.sheet b.sheet a.sheet b.sealed a.sealed in (
@@ -271,29 +257,55 @@ law begun s h empty run =
           let fx : first.0 ≡ x = sym (some_same (Some x) x first.0 refl first.1) in
           let gy : second.0 ≡ x = sym (some_same (Some y) y second.0 refl second.1) ∙ one in
           two_answers x t u f g (subst (λ z. Right z t f) fx first.2) (subst (λ z. Right z u g) gy second.2);
+      served = served begun empty h s run;
       rounds = λ x g. seals_rounds begun empty h s run x g;
     }
 
 -- ---- the next turn
 
--- the state is this one
-here : (s : State) (b : Board) (ps : List Point) (live : List ℕ) (nodes : List Node) → s.board ≡ b → s.points ≡ ps → s.live ≡ live → s.nodes ≡ nodes
-    → (tip : Option Spot) → places s.board s.points s.live s.nodes tip ≡ places b ps live nodes tip
-here s b ps live nodes hb hp hl hn tip = λ i. places (hb i) (hp i) (hl i) (hn i) tip
+-- an answer that is handed out now, beside one that was handed out before
+module _ (b : Board) (ps : List Point) (live : List ℕ) (nodes : List Node) (l : Led b ps live nodes) where
+  knows : Known l.history l.state
+  knows = known l.begin l.history l.state l.empty l.run
+
+  -- what is right under the seal that stands, beside what was handed out under it before, or is right now too
+  beside : (tips : List (Option Spot)) (entries : List (Result Found Refusal))
+      → ((tip : Option Spot) (f : Found) → Entered tips entries tip f → IsRight (standing l.history) tip f)
+      → (tip : Option Spot) (f : Found) → Entered tips entries tip f
+      → (x : Seal) × (standing l.history ≡ Some x) × Right x tip f
+      × ((u : Option Spot) (g : Found) → Handed l.history u g (Some x) ⊎ Entered tips entries u g → Exactly (f.answer ≡ g.answer) (OneCell x tip u))
+  beside tips entries all tip f e =
+      let r = all tip f e in
+      (r.0, r.1, r.2, λ u g. other r.0 r.1 r.2 u g)
+    where
+      other : (x : Seal) → standing l.history ≡ Some x → Right x tip f → (u : Option Spot) (g : Found)
+          → Handed l.history u g (Some x) ⊎ Entered tips entries u g → Exactly (f.answer ≡ g.answer) (OneCell x tip u)
+      other x st r u g (inl before) =
+          let q = answers l.begin l.empty l.history l.state l.run u g (Some x) before in
+          two_answers x tip u f g r (subst (λ z. Right z u g) (some_same (Some x) q.0 x q.1 refl) q.2)
+      other x st r u g (inr now) =
+          let q = all u g now in
+          two_answers x tip u f g r (subst (λ z. Right z u g) (some_same (standing l.history) q.0 x q.1 st) q.2)
 
 pub next_place : (b : Board) (ps : List Point) (live : List ℕ) (nodes : List Node) (tip : Option Spot) (said : Result Found Refusal)
     → said ≡ places b ps live nodes tip → RightNext b ps live nodes (tip ∷ []) (said ∷ [])
 unfolding RightNext
-next_place b ps live nodes tip said is begun s h empty run hb hp hl hn j t f at z entry =
-    let same : tip ≡ t = only tip t j at in
-    let told : said ≡ Ok f = only said (Ok f) j entry in
-    subst (λ t. IsRight (standing h) t f) same (right_place h s (known begun h s empty run) tip f (subst Scaled (sym same) z) (here s b ps live nodes hb hp hl hn tip ∙ sym is ∙ told))
+next_place b ps live nodes tip said is l =
+    beside b ps live nodes l (tip ∷ []) (said ∷ [])
+    (λ t f e.
+        let same : tip ≡ t = only tip t e.0 e.1 in
+        let told : said ≡ Ok f = only said (Ok f) e.0 e.3 in
+        subst (λ t. IsRight (standing l.history) t f) same
+        (right_place l.history l.state (knows b ps live nodes l) tip f (subst Scaled (sym same) e.2)
+        ((λ i. places (l.board i) (l.points i) (l.numbers i) (l.held i) tip) ∙ sym is ∙ told)))
 
 pub next_list : (b : Board) (ps : List Point) (live : List ℕ) (nodes : List Node) (tips : List (Option Spot)) (room : ℕ) (es : List (Result Found Refusal))
     → lists b ps live nodes tips room ≡ Ok es → RightNext b ps live nodes tips es
 unfolding RightNext
-next_list b ps live nodes tips room es is begun s h empty run hb hp hl hn j t f at z entry =
-    right_list h s (known begun h s empty run) tips room j es t f z ((λ i. lists (hb i) (hp i) (hl i) (hn i) tips room) ∙ is) at entry
+next_list b ps live nodes tips room es is l =
+    beside b ps live nodes l tips es
+    (λ t f e. right_list l.history l.state (knows b ps live nodes l) tips room e.0 es t f e.2
+        ((λ i. lists (l.board i) (l.points i) (l.numbers i) (l.held i) tips room) ∙ is) e.1 e.3)
 
 pub listed_length : (b : Board) (ps : List Point) (live : List ℕ) (nodes : List Node) (tips : List (Option Spot)) (room : ℕ) (es : List (Result Found Refusal))
     → lists b ps live nodes tips room ≡ Ok es → length es ≡ length tips
@@ -317,3 +329,33 @@ list_right b ps live nodes tips room said table old told front =
         let same : take (length tips) table ≡ es = (λ i. take (sym n i) (front i)) ∙ take-append_seam es (drop (length es) old) in
         subst (RightNext b ps live nodes tips) (sym same) (next_list b ps live nodes tips room es is)
     by_entries (Err e) is front = tt
+
+-- ---- a seal that is granted
+
+-- no number has more digits than it says
+few_digits : (halvings n : ℕ) → digits_within halvings n ≤ halvings
+unfolding digits_within
+few_digits zero n = omega arith
+few_digits (suc h) zero = omega arith
+few_digits (suc h) (suc n) = let d = few_digits h (suc n / 2) in omega (arith, d)
+
+pub seal_few : (b : Board) (live : List ℕ) (nodes : List Node) (said : Result (Unit {0}) Refusal) → said ≡ seals b live nodes → SealFew b live nodes said
+unfolding SealFew
+seal_few b live nodes (Err e) is = tt
+seal_few b live nodes (Ok tt) is ps l =
+    let h = l.history in
+    let s = l.state in
+    let same : seals s.board s.live s.nodes ≡ Ok tt = (λ i. seals (l.board i) (l.numbers i) (l.held i)) ∙ sym is in
+    let p = passed_by (is_layered s.board.stage) _ _ tt (passed_by (nat_le 2050 (length s.live)) _ _ tt same).1 in
+    let k = is_layering _ _ _ s.board s.points s.edges s.loops s.live s.nodes s.board.stage p.0 (knows b ps live nodes l) in
+    let few : rounds_since h ≤ 13 * digits (length k.held.sheet.inner) =
+    subst (λ n. n ≤ 13 * digits (length k.held.sheet.inner)) k.counted (rounds_are_few (length k.held.sheet.inner) k.built.rounds _ k.built.fell) in
+    let d = few_digits (length k.held.sheet.inner) (length k.held.sheet.inner) in
+    let legal = k.held.holds.legal.few in
+    let small : rounds_since h ≤ 65535 = omega (arith, few, d, legal) in
+    let ticked : rounds_since h ≡ b.rounds =
+    sym (least (rounds_since h) small) ∙ sym ((keeps l.begin h s l.empty l.run).ticked p.0) ∙ ap (λ (b : Board). b.rounds) l.board in
+    (k.held.sheet, k.held.loaded, ticked, subst (λ n. n ≤ 13 * digits (length k.held.sheet.inner)) ticked few)
+  where
+    least : (n : ℕ) → n ≤ 65535 → min 65535 n ≡ n
+    least n l = grind (arith)

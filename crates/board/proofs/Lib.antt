@@ -3,4 +3,5 @@ pub mod Passing
 pub mod Rounding
 pub mod Standing
 pub mod Known
+pub mod Serving
 pub mod Lawful

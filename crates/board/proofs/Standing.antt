@@ -1,6 +1,6 @@
 -- What stands on a board is a checked sheet, and its nodes are those that cuts and rounds make of it.
-use Rattle.std.proofs.Common.{◌≡◌, ℕ, zero, suc, ◌+◌, ◌*◌, ◌<◌, ◌≤◌, ◌==◌, Bool, true, false, cond, List, [], ◌∷◌, ◌++◌, Some, None, Option, Ok, Err, Result, length, min, take, drop, replicate, nat_le, refl, sym, ap, ◌∙◌, subst, inl, inr, arith}
-use Rattle.std.specs.List.{range_with_len}
+use Rattle.std.proofs.Common.{◌≡◌, ℕ, zero, suc, ◌+◌, ◌*◌, ◌<◌, ◌≤◌, ◌==◌, Bool, true, false, cond, List, [], ◌∷◌, ◌++◌, Some, None, Option, Ok, Err, Result, length, min, take, drop, replicate, nat_le, IfOk, refl, sym, ap, ◌∙◌, subst, inl, inr, arith}
+use Rattle.std.specs.List.{range_with_len, slice_get}
 use Rattle.std.proofs.Math.Seq.{take-append_seam}
 use Rattle.std.proofs.lemmas.List.FromFn.{length-range_with_len}
 use Rattle.std.proofs.lemmas.Bool.{cond-true}
@@ -30,16 +30,18 @@ use Rattle.hierarchy.specs.Theorems.{Ascends, Made}
 use Rattle.hierarchy.proofs.TakesOut.{round_takes_out}
 use Rattle.hierarchy.proofs.Theorems.{nodes_turn_left}
 use Rattle.hierarchy.proofs.Turns.{turns_make_layers}
-use Rattle.placing.specs.Placings.{Answered, place_said}
+use Rattle.placing.specs.Placings.{Answered, list_said, place_said}
+use Rattle.reader.specs.Reading.{and_then}
 use Rattle.placing.proofs.Tells.{place_tells}
 use Rattle.walk.specs.declared.Found.{Found}
 use Rattle.board.specs.declared.stage.Board.{Board}
 use Rattle.board.specs.declared.stage.Stage.{Stage}
 use Rattle.board.specs.declared.stage.Stage.TheVariants.{Draft, Checked, Layered, Sealed}
+use Rattle.board.proofs.Listing.{list_entry, ok_same}
 use Rattle.board.proofs.Rounding.{Finds, left_most, round_finds}
-use Rattle.board.specs.Standing.{Stands, TipTold}
+use Rattle.board.specs.Standing.{ListTold, Stands, TipTold}
 use Rattle.board.specs.Standing.Stands.{checked, cut, round, seal}
-use Rattle.board.specs.Turns.{checks, cut_board, cuts, is_checked, is_layered, is_sealed, live_of, places, points_in, round_board, round_room, rounds, seal_board, seals}
+use Rattle.board.specs.Turns.{checks, cut_board, cuts, is_checked, is_layered, is_sealed, list_answers, lists, live_of, places, points_in, round_board, round_room, rounds, seal_board, seals}
 
 -- ---- a turn that was granted
 
@@ -257,3 +259,38 @@ tip_told b ps live nodes tip said is s es ls st sealed long =
     let same : said ≡ place_said (size_of s) tip 0 (points_of s) nodes r.built.alive =
     is ∙ cond-true _ _ _ long ∙ cond-true _ _ _ sealed ∙ (λ i. place_said (sym h.holds.size i) tip 0 (points i) nodes (r.same i)) in
     subst (Answered s tip) (sym same) told
+
+-- ---- the answers of a list
+
+-- an entry in the front of a table
+front_entry : {X : Type 0} (xs rest : List X) (j : ℕ) (x : X) → slice_get xs j ≡ Some x → slice_get (xs ++ rest) j ≡ Some x
+front_entry [] rest j x h = cc
+front_entry (y ∷ ys) rest zero x h = h
+front_entry (y ∷ ys) rest (suc j) x h = front_entry ys rest j x h
+
+pub list_told : (b : Board) (ps : List Point) (live : List ℕ) (nodes : List Node) (tips : List (Option Spot)) (room : ℕ) (said : Result (Unit {0}) Refusal)
+    (answers old : List (Result Found Refusal)) → said ≡ and_then (lists b ps live nodes tips room) (λ _. Ok tt)
+    → answers ≡ list_answers (lists b ps live nodes tips room) old → ListTold b ps live nodes tips answers said
+unfolding ListTold
+list_told b ps live nodes tips room said answers old is filled s es ls st =
+    subst (λ (said : Result (Unit {0}) Refusal). IfOk said (λ _. Each)) (sym is) (by_entries (lists b ps live nodes tips room) refl filled)
+  where
+    Each : Type 0
+    Each = (j : ℕ) (tip : Option Spot) → slice_get tips j ≡ Some tip → (entry : Result Found Refusal) × (slice_get answers j ≡ Some entry) × Answered s tip entry
+    by_entries : (x : Result (List (Result Found Refusal)) Refusal) → lists b ps live nodes tips room ≡ x → answers ≡ list_answers x old
+        → IfOk (and_then {Y = Unit {0}} x (λ _. Ok tt)) (λ _. Each)
+    by_entries (Err e) told front = tt
+    by_entries (Ok entries) told front = λ j tip at.
+        let p = passed_by (is_sealed b.stage) _ _ entries (passed_by (cond (nat_le (length tips) room) (round_room (length ps) (length live)) false) _ _ entries told).1 in
+        let same : list_said b.size 0 (points_in b ps) nodes (live_of b live) tips ≡ entries = ok_same _ _ p.1 in
+        let h = sound s b ps es ls live nodes st in
+        let r = at_sealed b.stage s b live nodes p.0 h.come in
+        let points = points_same b ps es ls s h.holds in
+        let entry = list_entry b.size (points_in b ps) nodes (live_of b live) 0 tips j tip at in
+        let answer = place_tells s nodes r.built.alive r.built.made r.built.rounds r.built.right r.few tip (0 + j) in
+        let equal : place_said b.size tip (0 + j) (points_in b ps) nodes (live_of b live) ≡ place_said (size_of s) tip (0 + j) (points_of s) nodes r.built.alive =
+        λ i. place_said (sym h.holds.size i) tip (0 + j) (points i) nodes (r.same i) in (
+          place_said b.size tip (0 + j) (points_in b ps) nodes (live_of b live),
+          ap (λ t. slice_get t j) front ∙ front_entry entries (drop (length entries) old) j _ (ap (λ t. slice_get t j) (sym same) ∙ entry),
+          subst (Answered s tip) (sym equal) answer,
+        )

@@ -1,11 +1,11 @@
 -- The law over histories: what was answered under a seal is right, whatever came before and was refused on the way. It speaks of what was
 -- done and told alone.
-use Rattle.std.specs.Prelude.{◌≡◌, ℕ, ◌+◌, ◌*◌, ◌≤◌, ◌⊎◌, Bool, true, false, cond, List, [], ◌∷◌, length, take, IfOk, Some, None, Option, Ok, Result}
+use Rattle.std.specs.Prelude.{◌≡◌, ℕ, ◌+◌, ◌*◌, ◌≤◌, ◌⊎◌, Bool, true, false, cond, List, [], ◌∷◌, length, take, pos, IfOk, Some, None, Option, Ok, Result}
 use Rattle.std.specs.List.{slice_get}
 use Rattle.std.specs.Result.{result_ok}
 use Rattle.plane.specs.declared.Point.{Point}
 use Rattle.plane.specs.Kernels.{Scaled}
-use Rattle.plane.specs.Points.{Spot}
+use Rattle.plane.specs.Points.{Spot, is_on_sheet}
 use Rattle.refusal.specs.declared.Refusal.{Refusal}
 use Rattle.nodes.specs.declared.node.Node.{Node}
 use Rattle.sheet.specs.Load.{sheet_of}
@@ -146,6 +146,28 @@ OneCell x t u =
     (s : Sheet) × (p : Spot) × (q : Spot) × (c : Cell) × (x.sheet ≡ Some s) × (t ≡ Some p) × (u ≡ Some q)
     × (cell_holds (plane_of s) c p ≡ true) × (cell_holds (plane_of s) c q ≡ true)
 
+-- the tips that an event takes: that of a place, whatever is told of it, and those of a list that is granted
+abbrev pub taken_by : Turn → Told → List (Option Spot)
+taken_by (load file) o = []
+taken_by check o = []
+taken_by cut o = []
+taken_by round o = []
+taken_by seal o = []
+taken_by (place tip) o = tip ∷ []
+taken_by (list tips room) o = cond (is_granted o) tips []
+taken_by wipe o = []
+
+-- while this seal stands, every fit tip on its sheet that the event takes is answered
+abbrev pub Serves : Option Seal → Event → Type 0
+Serves stands e =
+    (x : Seal) (s : Sheet) → stands ≡ Some x → x.sheet ≡ Some s → (j : ℕ) (p : Spot) → slice_get (taken_by e.turn e.told) j ≡ Some (Some p)
+    → is_on_sheet (pos s.width) (pos s.height) p ≡ true → (f : Found) × (slice_get (entries_of e.told) j ≡ Some (Ok f))
+
+-- so it is of each event of a history
+abbrev pub Served : History → Type 0
+Served [] = Unit {0}
+Served (e ∷ h) = Serves (standing h) e × Served h
+
 -- each follows from the other
 abbrev pub Exactly : Type 0 → Type 0 → Type 0
 Exactly P Q = (P → Q) × (Q → P)
@@ -156,6 +178,8 @@ pub record Law (h : History) : Type 0 where
   -- two answers under one seal are equal exactly where one cell of its sheet holds both tips
   pub equal : (t u : Option Spot) (f g : Found) (x y : Seal) → Handed h t f (Some x) → Handed h u g (Some y) → x.at ≡ y.at
       → Exactly (f.answer ≡ g.answer) (OneCell x t u)
+  -- while a seal stands, every fit tip on its sheet that a place takes or a granted list holds is answered
+  pub served : Served h
   -- a seal's rounds are few, by its sheet's count of inner vertices
   pub rounds : (x : Seal) → IsSealOf h x → (s : Sheet) × (x.sheet ≡ Some s) × (x.rounds ≤ 13 * digits (length s.inner))
 
@@ -163,15 +187,36 @@ pub record Law (h : History) : Type 0 where
 abbrev pub LawOfHistories : Type 0
 LawOfHistories = (begin s : State) (h : History) → begin.board ≡ bare → Runs begin h s → Law h
 
--- the law of a turn that is made next: whatever history led to this board, these tables and this store, each answer that is handed out now is
--- right under the seal that stands
+-- a history that led to this board, these points and live numbers, and these nodes
+pub record Led (b : Board) (ps : List Point) (live : List ℕ) (nodes : List Node) : Type 0 where
+  pub begin : State
+  pub empty : begin.board ≡ bare
+  pub history : History
+  pub state : State
+  pub run : Runs begin history state
+  pub board : state.board ≡ b
+  pub points : state.points ≡ ps
+  pub numbers : state.live ≡ live
+  pub held : state.nodes ≡ nodes
+
+-- among the entries for these tips, this one answers this tip
+abbrev pub Entered : List (Option Spot) → List (Result Found Refusal) → Option Spot → Found → Type 0
+Entered tips entries tip f = (j : ℕ) × (slice_get tips j ≡ Some tip) × Scaled tip × (slice_get entries j ≡ Some (Ok f))
+
+-- the law of a turn that is made next: whatever history led here, each answer that is handed out now is right under the seal that stands, and it
+-- equals another one under that seal, of this turn or an earlier one, exactly where one cell holds both tips
 unfoldable pub RightNext : Board → List Point → (live : List ℕ) → List Node → List (Option Spot) → List (Result Found Refusal) → Type 0
 RightNext b ps live nodes tips entries =
-    (begin s : State) (h : History) → begin.board ≡ bare → Runs begin h s → s.board ≡ b → s.points ≡ ps → s.live ≡ live → s.nodes ≡ nodes
-    → (j : ℕ) (tip : Option Spot) (f : Found) → slice_get tips j ≡ Some tip → Scaled tip → slice_get entries j ≡ Some (Ok f)
-    → (x : Seal) × (standing h ≡ Some x) × Right x tip f
+    (l : Led b ps live nodes) (tip : Option Spot) (f : Found) → Entered tips entries tip f
+    → (x : Seal) × (standing l.history ≡ Some x) × Right x tip f
+    × ((u : Option Spot) (g : Found) → Handed l.history u g (Some x) ⊎ Entered tips entries u g → Exactly (f.answer ≡ g.answer) (OneCell x tip u))
 
 -- so of a list that is granted: its entries stand in the front of its table
 unfoldable pub ListRight : Board → List Point → (live : List ℕ) → List Node → List (Option Spot) → (answers : List (Result Found Refusal))
     → Result (Unit {0}) Refusal → Type 0
 ListRight b ps live nodes tips answers said = IfOk said (λ _. RightNext b ps live nodes tips (take (length tips) answers))
+
+-- and of a seal: whatever history led here, where it is granted its rounds are few, by its sheet's count of inner vertices
+unfoldable pub SealFew : Board → (live : List ℕ) → List Node → Result (Unit {0}) Refusal → Type 0
+SealFew b live nodes said =
+    IfOk said (λ _. (ps : List Point) (l : Led b ps live nodes) → (s : Sheet) × (last_sheet l.history ≡ Some s) × (rounds_since l.history ≡ b.rounds) × (b.rounds ≤ 13 * digits (length s.inner)))

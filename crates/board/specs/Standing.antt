@@ -1,5 +1,6 @@
 -- A sheet that stands on a board: what the turns leave of it as long as nobody alters a table or the store; and what is answered to its tips.
-use Rattle.std.specs.Prelude.{◌≡◌, ℕ, true, List, length, Option, Ok, Result}
+use Rattle.std.specs.Prelude.{◌≡◌, ℕ, true, List, length, IfOk, Some, Option, Ok, Result}
+use Rattle.std.specs.List.{slice_get}
 use Rattle.plane.specs.declared.Point.{Point}
 use Rattle.plane.specs.declared.Edge.{Edge}
 use Rattle.plane.specs.Points.{Spot}
@@ -32,3 +33,10 @@ unfoldable pub TipTold : Board → List Point → (live : List ℕ) → List Nod
 TipTold b ps live nodes tip said =
     (s : Sheet) (es : List Edge) (ls : List Loop) → Stands s b ps es ls live nodes
     → is_sealed b.stage ≡ true → round_room (length ps) (length live) ≡ true → Answered s tip said
+
+-- so of a list that is granted: every tip of it that is on the sheet is answered so in its entry
+unfoldable pub ListTold : Board → List Point → (live : List ℕ) → List Node → List (Option Spot) → (answers : List (Result Found Refusal))
+    → Result (Unit {0}) Refusal → Type 0
+ListTold b ps live nodes tips answers said =
+    (s : Sheet) (es : List Edge) (ls : List Loop) → Stands s b ps es ls live nodes
+    → IfOk said (λ _. (j : ℕ) (tip : Option Spot) → slice_get tips j ≡ Some tip → (entry : Result Found Refusal) × (slice_get answers j ≡ Some entry) × Answered s tip entry)

@@ -5,8 +5,8 @@ ghost use Rattle.sheet.specs.Sheets.{edges_of, loops_of, points_of};
 ghost use Rattle.bottom.specs.Cuts.{cut_live, cut_nodes};
 ghost use Rattle.rounds.specs.Rounds.{RoundLive, round_nodes};
 ghost use Rattle.board.specs.Turns.{SheetPasses, bare, check_board, checks, cut_board, cuts, round_board, round_room, rounds, seal_board, seals, is_loaded, is_sealed, list_answers, lists, load_board, loads, places};
-ghost use Rattle.board.specs.Standing.{TipTold};
-ghost use Rattle.board.specs.Law.{ListRight, RightNext};
+ghost use Rattle.board.specs.Standing.{ListTold, TipTold};
+ghost use Rattle.board.specs.Law.{ListRight, RightNext, SealFew};
 
 use crate::stage::{Board, Stage};
 use bottom::{LEAST_LIVE, cut_tables, have_room};
@@ -175,9 +175,11 @@ impl Board {
     }
 
     /// Makes a Layered sheet Sealed whose inner vertices are all taken out; a refusal leaves the board as it is.
+    #[tactic(auto, using(crate::proofs::Lawful::seal_few))]
     pub fn seal<S: ReadStore>(&mut self, live: &[u16], store: &S) -> Result<(), Refusal>
         ensures said { result ≡ seals self.old live.now (S.nodes store.now) }
         ensures board { self.new ≡ seal_board (seals self.old live.now (S.nodes store.now)) self.old }
+        ensures few { SealFew self.old live.now (S.nodes store.now) result }
     {
         if live.len() < LEAST_LIVE {
             return Err(Refusal::new(Cause::TableTooShort, Layer::Build, 0));
@@ -250,7 +252,7 @@ impl Board {
 
     /// Answers tips of a Sealed sheet one after another into a table that has an entry for each; the entry of a refused tip has its refusal, and
     /// the entries behind stay.
-    #[tactic(auto, using(crate::proofs::Lawful::list_right))]
+    #[tactic(auto, using(crate::proofs::Lawful::list_right, crate::proofs::Standing::list_told))]
     pub fn list<K: Kernel, S: ReadStore>(
         &mut self,
         tips: &[K],
@@ -262,6 +264,7 @@ impl Board {
         ensures said { result ≡ and_then (lists self.old points.now live.now (S.nodes store.now) (map K.means tips.now) (length answers.old)) (λ _. Good tt) }
         ensures board { self.new ≡ self.old }
         ensures answers { answers.new ≡ list_answers (lists self.old points.now live.now (S.nodes store.now) (map K.means tips.now) (length answers.old)) answers.old }
+        ensures tells { ListTold self.old points.now live.now (S.nodes store.now) (map K.means tips.now) answers.new result }
         ensures right { ListRight self.old points.now live.now (S.nodes store.now) (map K.means tips.now) answers.new result }
     {
         self.answer(tips, points, live, store, answers)

@@ -7,8 +7,8 @@ ghost use Rattle.reader.specs.Reading.{and_then};
 ghost use Rattle.bottom.specs.Cuts.{cut_live, cut_nodes};
 ghost use Rattle.rounds.specs.Rounds.{RoundLive, round_nodes};
 ghost use Rattle.board.specs.Turns.{bare, check_board, checks, cut_board, cuts, list_answers, lists, load_board, loads, places, round_board, rounds, seal_board, seals};
-ghost use Rattle.board.specs.Standing.{TipTold};
-ghost use Rattle.board.specs.Law.{ListRight, RightNext};
+ghost use Rattle.board.specs.Standing.{ListTold, TipTold};
+ghost use Rattle.board.specs.Law.{ListRight, RightNext, SealFew};
 ghost use Rattle.board.specs.Sheets.{board_of, checked_board, draft_board, layered_board, said_of, sealed_board};
 
 use crate::stage::{Board, Stage};
@@ -190,6 +190,7 @@ impl Layered {
     pub fn seal<S: ReadStore>(self, live: &[u16], store: &S) -> Result<Sealed, Refused<Layered>>
         ensures said { said_of result ≡ seals (layered_board self) live.now (S.nodes store.now) }
         ensures board { board_of sealed_board layered_board result ≡ seal_board (seals (layered_board self) live.now (S.nodes store.now)) (layered_board self) }
+        ensures few { SealFew (layered_board self) live.now (S.nodes store.now) (said_of result) }
     {
         let Layered {
             size,
@@ -258,6 +259,7 @@ impl Sealed {
         ensures said { said_of result ≡ and_then (lists (sealed_board self) points.now live.now (S.nodes store.now) (map K.means tips.now) (length answers.old)) (λ _. Good tt) }
         ensures board { board_of sealed_board sealed_board result ≡ sealed_board self }
         ensures answers { answers.new ≡ list_answers (lists (sealed_board self) points.now live.now (S.nodes store.now) (map K.means tips.now) (length answers.old)) answers.old }
+        ensures tells { ListTold (sealed_board self) points.now live.now (S.nodes store.now) (map K.means tips.now) answers.new (said_of result) }
         ensures right { ListRight (sealed_board self) points.now live.now (S.nodes store.now) (map K.means tips.now) answers.new (said_of result) }
     {
         let Sealed {

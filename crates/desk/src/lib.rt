@@ -7,8 +7,8 @@ ghost use Rattle.sheet.specs.Load.{upon};
 ghost use Rattle.sheet.specs.Sheets.{edges_of, loops_of, points_of};
 ghost use Rattle.bottom.specs.Cuts.{cut_live, cut_nodes};
 ghost use Rattle.rounds.specs.Rounds.{RoundLive, round_nodes};
-ghost use Rattle.board.specs.Standing.{TipTold};
-ghost use Rattle.board.specs.Law.{ListRight, RightNext};
+ghost use Rattle.board.specs.Standing.{ListTold, TipTold};
+ghost use Rattle.board.specs.Law.{ListRight, RightNext, SealFew};
 ghost use Rattle.board.specs.Turns.{check_board, cut_board, list_answers, load_board, places, round_board, seal_board, seals};
 ghost use Rattle.desk.specs.Desks.{IsFresh, TablesStay, desk_checks, desk_cuts, desk_lists, desk_loads, desk_rounds};
 
@@ -147,6 +147,7 @@ impl Desk {
     pub fn seal<S: ReadStore>(&mut self, store: &S) -> Result<(), Refusal>
         ensures said { result ≡ seals self.old.board self.old.live.items (S.nodes store.now) }
         ensures board { self.new.board ≡ seal_board (seals self.old.board self.old.live.items (S.nodes store.now)) self.old.board }
+        ensures few { SealFew self.old.board self.old.live.items (S.nodes store.now) result }
         ensures live { self.new.live.items ≡ self.old.live.items }
         ensures tables { TablesStay self.old self.new }
     {
@@ -178,6 +179,7 @@ impl Desk {
         ensures said { result ≡ and_then (desk_lists self.old (S.nodes store.now) (map K.means tips.now) (length answers.old)) (λ _. Good tt) }
         ensures board { self.new.board ≡ self.old.board }
         ensures answers { answers.new ≡ list_answers (desk_lists self.old (S.nodes store.now) (map K.means tips.now) (length answers.old)) answers.old }
+        ensures tells { ListTold self.old.board self.old.points.items self.old.live.items (S.nodes store.now) (map K.means tips.now) answers.new result }
         ensures right { ListRight self.old.board self.old.points.items self.old.live.items (S.nodes store.now) (map K.means tips.now) answers.new result }
         ensures live { self.new.live.items ≡ self.old.live.items }
         ensures tables { TablesStay self.old self.new }
