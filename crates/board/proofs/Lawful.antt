@@ -27,7 +27,7 @@ use Rattle.board.specs.Histories.{Event, History, Runs, State, Step, Told, Turn,
 use Rattle.board.specs.Histories.Runs.{begin, turn}
 use Rattle.board.specs.Histories.Told.{answered, granted, listed, refused}
 use Rattle.board.specs.Histories.Turn.{check, cut, list, load, place, round, seal, wipe}
-use Rattle.board.specs.Law.{Entered, Exactly, WalkFinds, Given, Handed, IsSealOf, Law, LawOfHistories, Led, ListRight, OneCell, Right, RightNext, Seal, SealFew, is_granted, rounds_since, seal_of, seal_then, standing}
+use Rattle.board.specs.Law.{Entered, Exactly, WalkFinds, Given, Handed, IsSealOf, Law, LawOfHistories, Led, ListRight, OneCell, Right, RightNext, Seal, SealFew, is_granted, last_sheet, rounds_since, seal_of, seal_then, standing}
 use Rattle.board.specs.Turns.{bare, is_layered, is_sealed, list_answers, lists, live_of, places, points_in, round_room, seals}
 use Rattle.board.proofs.Listing.{ok_same}
 use Rattle.board.proofs.Known.{Known, Sealing, is_layering, is_sealing, known}
@@ -293,11 +293,11 @@ unfolding RightNext
 next_place b ps live nodes tip said is l =
     beside b ps live nodes l (tip ∷ []) (said ∷ [])
     (λ t f e.
-        let same : tip ≡ t = only tip t e.0 e.1 in
-        let told : said ≡ Ok f = only said (Ok f) e.0 e.3 in
-        subst (λ t. IsRight (standing l.history) t f) same
-        (right_place l.history l.state (knows b ps live nodes l) tip f (subst Scaled (sym same) e.2)
-        ((λ i. places (l.board i) (l.points i) (l.numbers i) (l.held i) tip) ∙ sym is ∙ told)))
+    let same : tip ≡ t = only tip t e.0 e.1 in
+    let told : said ≡ Ok f = only said (Ok f) e.0 e.3 in
+    subst (λ t. IsRight (standing l.history) t f) same
+    (right_place l.history l.state (knows b ps live nodes l) tip f (subst Scaled (sym same) e.2)
+    ((λ i. places (l.board i) (l.points i) (l.numbers i) (l.held i) tip) ∙ sym is ∙ told)))
 
 pub next_list : (b : Board) (ps : List Point) (live : List ℕ) (nodes : List Node) (tips : List (Option Spot)) (room : ℕ) (es : List (Result Found Refusal))
     → lists b ps live nodes tips room ≡ Ok es → RightNext b ps live nodes tips es
@@ -305,7 +305,7 @@ unfolding RightNext
 next_list b ps live nodes tips room es is l =
     beside b ps live nodes l tips es
     (λ t f e. right_list l.history l.state (knows b ps live nodes l) tips room e.0 es t f e.2
-        ((λ i. lists (l.board i) (l.points i) (l.numbers i) (l.held i) tips room) ∙ is) e.1 e.3)
+    ((λ i. lists (l.board i) (l.points i) (l.numbers i) (l.held i) tips room) ∙ is) e.1 e.3)
 
 pub listed_length : (b : Board) (ps : List Point) (live : List ℕ) (nodes : List Node) (tips : List (Option Spot)) (room : ℕ) (es : List (Result Found Refusal))
     → lists b ps live nodes tips room ≡ Ok es → length es ≡ length tips
@@ -342,20 +342,24 @@ few_digits (suc h) (suc n) = let d = few_digits h (suc n / 2) in omega (arith, d
 pub seal_few : (b : Board) (live : List ℕ) (nodes : List Node) (said : Result (Unit {0}) Refusal) → said ≡ seals b live nodes → SealFew b live nodes said
 unfolding SealFew
 seal_few b live nodes (Err e) is = tt
-seal_few b live nodes (Ok tt) is ps l =
-    let h = l.history in
-    let s = l.state in
-    let same : seals s.board s.live s.nodes ≡ Ok tt = (λ i. seals (l.board i) (l.numbers i) (l.held i)) ∙ sym is in
-    let p = passed_by (is_layered s.board.stage) _ _ tt (passed_by (nat_le 2050 (length s.live)) _ _ tt same).1 in
-    let k = is_layering _ _ _ s.board s.points s.edges s.loops s.live s.nodes s.board.stage p.0 (knows b ps live nodes l) in
-    let few : rounds_since h ≤ 13 * digits (length k.held.sheet.inner) =
-    subst (λ n. n ≤ 13 * digits (length k.held.sheet.inner)) k.counted (rounds_are_few (length k.held.sheet.inner) k.built.rounds _ k.built.fell) in
-    let d = few_digits (length k.held.sheet.inner) (length k.held.sheet.inner) in
-    let legal = k.held.holds.legal.few in
-    let small : rounds_since h ≤ 65535 = omega (arith, few, d, legal) in
-    let ticked : rounds_since h ≡ b.rounds =
-    sym (least (rounds_since h) small) ∙ sym ((keeps l.begin h s l.empty l.run).ticked p.0) ∙ ap (λ (b : Board). b.rounds) l.board in
-    (k.held.sheet, k.held.loaded, ticked, subst (λ n. n ≤ 13 * digits (length k.held.sheet.inner)) ticked few)
+seal_few b live nodes (Ok u) is = λ ps l. few ps l
   where
     least : (n : ℕ) → n ≤ 65535 → min 65535 n ≡ n
     least n l = grind (arith)
+
+    few : (ps : List Point) (l : Led b ps live nodes)
+        → (s : Sheet) × (last_sheet l.history ≡ Some s) × (rounds_since l.history ≡ b.rounds) × (b.rounds ≤ 13 * digits (length s.inner))
+    few ps l =
+        let h = l.history in
+        let s = l.state in
+        let same : seals s.board s.live s.nodes ≡ Ok u = (λ i. seals (l.board i) (l.numbers i) (l.held i)) ∙ sym is in
+        let p = passed_by (is_layered s.board.stage) _ _ u (passed_by (nat_le 2050 (length s.live)) _ _ u same).1 in
+        let k = is_layering _ _ _ s.board s.points s.edges s.loops s.live s.nodes s.board.stage p.0 (knows b ps live nodes l) in
+        let most : rounds_since h ≤ 13 * digits (length k.held.sheet.inner) =
+        subst (λ n. n ≤ 13 * digits (length k.held.sheet.inner)) k.counted (rounds_are_few (length k.held.sheet.inner) k.built.rounds _ k.built.fell) in
+        let d = few_digits (length k.held.sheet.inner) (length k.held.sheet.inner) in
+        let legal = k.held.holds.legal.few in
+        let small : rounds_since h ≤ 65535 = omega (arith, most, d, legal) in
+        let ticked : rounds_since h ≡ b.rounds =
+        sym (least (rounds_since h) small) ∙ sym ((keeps l.begin h s l.empty l.run).ticked p.0) ∙ ap (λ (b : Board). b.rounds) l.board in
+        (k.held.sheet, k.held.loaded, ticked, subst (λ n. n ≤ 13 * digits (length k.held.sheet.inner)) ticked most)

@@ -28,4 +28,3 @@ module _ (z : Size) (ps : List Point) (nodes : List Node) (tops : List ℕ) wher
   list_entry at (t ∷ ts) (suc j) tip h =
       let n : at + 1 + j ≡ at + suc j = omega arith in
       list_entry (at + 1) ts j tip h ∙ ap (λ n. Some (place_said z tip n ps nodes tops)) n
-

@@ -112,7 +112,7 @@ module _ (h : History) (s : State) (k : Keeps h s) where
       record {
         sealed = λ x st. one_stage s.board.stage (k.sealed x st) g.0;
         roomy = λ l. more_room (length s.points) (length (over (points_of sheet) s.points)) (length s.live) (length s.live)
-          (less_room (length s.points) (length s.edges) (length s.loops) (length s.live) r.0) (no_shorter (points_of sheet) s.points) (omega arith);
+            (less_room (length s.points) (length s.edges) (length s.loops) (length s.live) r.0) (no_shorter (points_of sheet) s.points) (omega arith);
         ticked = λ l. cc;
       }
 
@@ -218,7 +218,7 @@ module _ (h : History) (s : State) (k : Known h s) (kept : Keeps h s) (x : Seal)
       let points = points_same s.board s.points s.edges s.loops g.held.sheet g.held.holds in
       let within : is_on_sheet (pos g.held.sheet.width) (pos g.held.sheet.height) p ≡ true = (λ i. is_on_sheet (pos (held i).width) (pos (held i).height) p) ∙ on in
       let t = place_tells g.held.sheet s.nodes built.alive built.made built.rounds built.right g.ready.few (Some p) position p refl z within in
-      (t.0, (λ i. place_said (g.held.holds.size (neg i)) (Some p) position (points i) s.nodes (g.ready.same i)) ∙ t.1)
+      (t.0, (λ i. place_said (sym g.held.holds.size i) (Some p) position (points i) s.nodes (g.ready.same i)) ∙ t.1)
 
   room : round_room (length s.points) (length s.live) ≡ true
   room =

@@ -277,6 +277,7 @@ list_told b ps live nodes tips room said answers old is filled s es ls st =
   where
     Each : Type 0
     Each = (j : ℕ) (tip : Option Spot) → slice_get tips j ≡ Some tip → (entry : Result Found Refusal) × (slice_get answers j ≡ Some entry) × Answered s tip entry
+
     by_entries : (x : Result (List (Result Found Refusal)) Refusal) → lists b ps live nodes tips room ≡ x → answers ≡ list_answers x old
         → IfOk (and_then {Y = Unit {0}} x (λ _. Ok tt)) (λ _. Each)
     by_entries (Err e) told front = tt
