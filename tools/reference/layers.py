@@ -56,11 +56,11 @@ def triangle_at(corners, i):
 
 def is_ear(points, corners, i):
     triangle = triangle_at(corners, i)
-    # Others are told apart by their number: one with the number of a, b or c
-    # does not count, one at the point of a, b or c does.
+    # Others are those at other positions, also where they have the number of a, b or c.
+    own = {(i + k) % len(corners) for k in (-1, 0, 1)}
     return (turn(points, *triangle) > 0 and
             not any(holds(points, triangle, v)
-                    for v in corners if v not in triangle))
+                    for j, v in enumerate(corners) if j not in own))
 
 
 def cutting(points, corners):
