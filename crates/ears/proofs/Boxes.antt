@@ -1,6 +1,6 @@
 -- A triangle that turns left holds no point outside the box of its corners.
-use Rattle.std.proofs.Common.{◌≡◌, ℕ, ◌<◌, ◌≤◌, Bool, true, false, not, ◌&&◌, ◌||◌, List, [], ◌∷◌, ℤ, pos, ◌+ℤ◌, ◌-ℤ◌, ◌*ℤ◌, ◌≤ℤ◌, ◌<ℤ◌, int_le, int_lt, refl, sym, ap, ap₂, ⊎_elim, ◌∙◌, le-leb}
-use Rattle.std.specs.List.{list_any}
+use Rattle.std.proofs.Common.{◌≡◌, ℕ, ◌<◌, ◌≤◌, Bool, true, false, not, ◌&&◌, ◌||◌, List, [], ◌∷◌, length, get_or, ℤ, pos, ◌+ℤ◌, ◌-ℤ◌, ◌*ℤ◌, ◌≤ℤ◌, ◌<ℤ◌, int_le, int_lt, refl, sym, ap, ap₂, ⊎_elim, ◌∙◌, le-leb}
+use Rattle.std.specs.List.{list_any, range_with_len}
 use Rattle.std.proofs.lemmas.Bool.{and_from, and_parts, cases_lt}
 use Rattle.std.proofs.lemmas.Int.{by_lt_z}
 use Rattle.plane.specs.declared.Point.{Point}
@@ -8,11 +8,11 @@ use Rattle.plane.specs.Identities.{width}
 use Rattle.plane.specs.Points.{GridPoint, Spot, area, det, grid_point, place_of, spot_at, vertex_of}
 use Rattle.plane.proofs.Determinants.{along_width, identities}
 use Rattle.plane.proofs.Signs.{lin, times-++, times--+, times->>, times-<>}
-use Rattle.tiling.specs.Triangles.{Triangle}
+use Rattle.tiling.specs.Triangles.{Triangle, closed_holds}
 use Rattle.plane.specs.declared.Corners.{Corners}
 use Rattle.ears.specs.declared.shape.Shape.{Shape}
 use Rattle.ears.specs.Cutting.{triangle_of}
-use Rattle.ears.specs.Ears.{blocks, has_corner, is_ear, is_left, triangle_at}
+use Rattle.ears.specs.Ears.{is_ear, is_left, is_other, triangle_at}
 use Rattle.ears.specs.Shapes.{blocks_in_box, greatest, holds, in_box, in_range, least, shape_at, shape_of, turns_left}
 
 -- ---- over the integers: numbers that balance under weights which are not all 0 are not all of one sign
@@ -93,37 +93,46 @@ held_is_boxed t a b c q left held =
 
 -- ---- the tests
 
-by_box : (box other held : Bool) → (held ≡ true → box ≡ true) → (box && (other && held)) ≡ (other && held)
-by_box true other held h = refl
-by_box false true true h = h refl
-by_box false true false h = refl
-by_box false false held h = refl
+by_box : (other box held : Bool) → (held ≡ true → box ≡ true) → (other && (box && held)) ≡ (other && held)
+by_box false box held h = refl
+by_box true true held h = refl
+by_box true false true h = h refl
+by_box true false false h = refl
 
 any_same : (p q : ℕ → Bool) → ((v : ℕ) → p v ≡ q v) → (vs : List ℕ) → list_any p vs ≡ list_any q vs
 any_same p q same [] = refl
 any_same p q same (v ∷ vs) = ap₂ ◌||◌ (same v) (any_same p q same vs)
 
-blocked_by_box : (ps : List Point) (t : Corners) (vs : List ℕ) → turns_left (shape_of ps t) ≡ true
-    → list_any (blocks_in_box ps (shape_of ps t)) vs ≡ list_any (blocks (place_of ps) (triangle_of t)) vs
-blocked_by_box ps t vs left =
-    any_same _ _ (λ v. by_box _ (not (has_corner (triangle_of t) v)) _ (held_is_boxed t (vertex_of ps t.a) (vertex_of ps t.b) (vertex_of ps t.c) (vertex_of ps v) left)) vs
+abbrev positions : List ℕ → List ℕ
+positions cs = range_with_len 0 (length cs)
 
-ear_is : (at : ℕ → GridPoint) (cs : List ℕ) (i : ℕ) (t : Triangle) → t ≡ triangle_at cs i → is_ear at cs i ≡ (is_left at t && not (list_any (blocks at t) cs))
+-- another corner in the triangle
+abbrev blocks_at : (ℕ → GridPoint) → Triangle → List ℕ → (i j : ℕ) → Bool
+blocks_at at t cs i j = is_other (length cs) i j && closed_holds at t (spot_at (at (get_or cs j 0)))
+
+blocked_by_box : (ps : List Point) (t : Corners) (cs : List ℕ) (i : ℕ) → turns_left (shape_of ps t) ≡ true
+    → list_any (blocks_in_box ps (shape_of ps t) cs i) (positions cs) ≡ list_any (blocks_at (place_of ps) (triangle_of t) cs i) (positions cs)
+blocked_by_box ps t cs i left =
+    any_same _ _
+    (λ j. by_box (is_other (length cs) i j) _ _ (held_is_boxed t (vertex_of ps t.a) (vertex_of ps t.b) (vertex_of ps t.c) (vertex_of ps (get_or cs j 0)) left))
+    (positions cs)
+
+ear_is : (at : ℕ → GridPoint) (cs : List ℕ) (i : ℕ) (t : Triangle) → t ≡ triangle_at cs i → is_ear at cs i ≡ (is_left at t && not (list_any (blocks_at at t cs i) (positions cs)))
 unfolding is_ear
-ear_is at cs i t e = ap (λ u. is_left at u && not (list_any (blocks at u) cs)) (sym e)
+ear_is at cs i t e = ap (λ u. is_left at u && not (list_any (blocks_at at u cs i) (positions cs))) (sym e)
 
 pub ear_by_box : (ps : List Point) (cs : List ℕ) (i : ℕ) (t : Corners) (s : Shape) (left blocked : Bool) → triangle_of t ≡ triangle_at cs i → s ≡ shape_of ps t
-    → left ≡ true → left ≡ turns_left s → blocked ≡ list_any (blocks_in_box ps s) cs → not blocked ≡ is_ear (place_of ps) cs i
+    → left ≡ true → left ≡ turns_left s → blocked ≡ list_any (blocks_in_box ps s cs i) (range_with_len 0 (length cs)) → not blocked ≡ is_ear (place_of ps) cs i
 ear_by_box ps cs i t s left blocked corners shape lies told test =
     let turned : turns_left (shape_of ps t) ≡ true = ap turns_left (sym shape) ∙ sym told ∙ lies in
-    ap not (test ∙ ap (λ u. list_any (blocks_in_box ps u) cs) shape ∙ blocked_by_box ps t cs turned)
-    ∙ sym (ear_is (place_of ps) cs i (triangle_of t) corners ∙ ap (λ b. b && not (list_any (blocks (place_of ps) (triangle_of t)) cs)) turned)
+    ap not (test ∙ ap (λ u. list_any (blocks_in_box ps u cs i) (positions cs)) shape ∙ blocked_by_box ps t cs i turned)
+    ∙ sym (ear_is (place_of ps) cs i (triangle_of t) corners ∙ ap (λ b. b && not (list_any (blocks_at (place_of ps) (triangle_of t) cs i) (positions cs))) turned)
 
 pub no_ear : (ps : List Point) (cs : List ℕ) (i : ℕ) (t : Corners) (s : Shape) (left : Bool) → triangle_of t ≡ triangle_at cs i → s ≡ shape_of ps t
     → left ≡ false → left ≡ turns_left s → left ≡ is_ear (place_of ps) cs i
 no_ear ps cs i t s left corners shape lies told =
     lies
-    ∙ sym (ear_is (place_of ps) cs i (triangle_of t) corners ∙ ap (λ b. b && not (list_any (blocks (place_of ps) (triangle_of t)) cs)) (ap turns_left (sym shape) ∙ sym told ∙ lies))
+    ∙ sym (ear_is (place_of ps) cs i (triangle_of t) corners ∙ ap (λ b. b && not (list_any (blocks_at (place_of ps) (triangle_of t) cs i) (positions cs))) (ap turns_left (sym shape) ∙ sym told ∙ lies))
 
 -- for the test of an ear
 pub ruleset told_by_box = (ear_by_box, no_ear)

@@ -16,21 +16,22 @@ after n i = cond (i + 1 == n) 0 (i + 1)
 abbrev pub triangle_at : List ℕ → ℕ → Triangle
 triangle_at cs i = triangle (slice_index cs (before (length cs) i)) (slice_index cs i) (slice_index cs (after (length cs) i))
 
-abbrev pub has_corner : Triangle → ℕ → Bool
-has_corner t v = v == t.a || (v == t.b || v == t.c)
+-- the position j is another than i and the two beside it
+abbrev pub is_other : ℕ → ℕ → ℕ → Bool
+is_other n i j = not (j == before n i || (j == i || j == after n i))
 
 module _ (at : ℕ → GridPoint) where
   -- c is strictly to the left of the line from a to b
   abbrev pub is_left : Triangle → Bool
   is_left t = int_lt (pos 0) (area (at t.a) (at t.b) (at t.c))
 
-  -- v is none of the triangle's corners, and lies in it or on its border
-  abbrev pub blocks : Triangle → ℕ → Bool
-  blocks t v = not (has_corner t v) && closed_holds at t (spot_at (at v))
+  -- the corner at another position j lies in the triangle at i, or on its border
+  abbrev pub blocks : List ℕ → ℕ → ℕ → Bool
+  blocks cs i j = is_other (length cs) i j && closed_holds at (triangle_at cs i) (spot_at (at (slice_index cs j)))
 
-  -- the triangle at a position turns left, and no corner blocks it
+  -- the triangle at a position turns left, and no other corner of the list blocks it
   unfoldable pub is_ear : List ℕ → ℕ → Bool
-  is_ear cs i = is_left (triangle_at cs i) && not (list_any (blocks (triangle_at cs i)) cs)
+  is_ear cs i = is_left (triangle_at cs i) && not (list_any (blocks cs i) (range_with_len 0 (length cs)))
 
   -- the lowest position that is an ear
   abbrev pub first_ear : List ℕ → Option ℕ

@@ -1,9 +1,10 @@
 -- Worked examples of cutting, computed from the definitions.
-use Rattle.std.specs.Prelude.{◌≡◌, ℕ, false, List, [], ◌∷◌, Some, None, Option}
+use Rattle.std.specs.Prelude.{◌≡◌, ℕ, false, true, List, [], ◌∷◌, Some, None, Option}
 use Rattle.plane.specs.declared.Point.{Point}
 use Rattle.plane.specs.Points.{place_of}
 use Rattle.tiling.specs.Triangles.{Triangle, triangle}
 use Rattle.ears.specs.Ears.{cut_of, first_ear, is_ear}
+use Rattle.ears.specs.Numbers.{is_ear_by_number}
 
 abbrev pub point : ℕ → ℕ → Point
 point x y = record { x = x; y = y }
@@ -22,6 +23,10 @@ notched = point 0 0 ∷ point 4 0 ∷ point 2 2 ∷ point 4 4 ∷ point 0 4 ∷ 
 -- vertex 3 is below the line from 4 to 1
 abbrev pub dented : List Point
 dented = point 0 0 ∷ point 6 0 ∷ point 6 6 ∷ point 3 2 ∷ point 0 6 ∷ []
+
+-- vertex 0 is in the triangle of 1, 2 and 3, and vertex 4 beyond the line from 2 to 3
+abbrev pub slit : List Point
+slit = point 3 2 ∷ point 0 0 ∷ point 6 0 ∷ point 3 6 ∷ point 7 5 ∷ []
 
 abbrev pub cut_in : List Point → List ℕ → Option (List Triangle)
 cut_in ps cs = cut_of (place_of ps) cs
@@ -44,3 +49,9 @@ pub record EarExamples : Type 0 where
   pub clockwise : cut_in square (3 ∷ 2 ∷ 1 ∷ 0 ∷ []) ≡ None
   pub in_line : cut_in straight (0 ∷ 1 ∷ 2 ∷ []) ≡ None
   pub two : cut_in square (0 ∷ 1 ∷ []) ≡ None
+  -- vertex 1 stands on either side of the slit from 1 to 0: the triangle of 0, 1 and 2 has no other vertex in it, but at another position its
+  -- corner 1 once more; by numbers it would be the first ear, and the list be cut into 0 1 2, 0 2 4, 0 4 3 and 3 1 0
+  pub slit_first : first_ear (place_of slit) (1 ∷ 2 ∷ 4 ∷ 3 ∷ 1 ∷ 0 ∷ []) ≡ Some 2
+  pub slit_blocked : is_ear (place_of slit) (1 ∷ 2 ∷ 4 ∷ 3 ∷ 1 ∷ 0 ∷ []) 0 ≡ false
+  pub slit_by_number : is_ear_by_number (place_of slit) (1 ∷ 2 ∷ 4 ∷ 3 ∷ 1 ∷ 0 ∷ []) 0 ≡ true
+  pub slit_stuck : cut_in slit (1 ∷ 2 ∷ 4 ∷ 3 ∷ 1 ∷ 0 ∷ []) ≡ None

@@ -1,4 +1,5 @@
 pub mod Ears
 pub mod Cutting
 pub mod Shapes
+pub mod Numbers
 pub mod Examples

@@ -1,11 +1,10 @@
 -- A triangle with where its corners are and the box that they span, by which most corners are told not to block it.
-use Rattle.std.specs.Prelude.{ℕ, Bool, not, ◌&&◌, List, max, min, pos, int_le, int_lt, nat_le}
+use Rattle.std.specs.Prelude.{ℕ, Bool, ◌&&◌, List, length, max, min, pos, int_le, int_lt, nat_le, slice_index}
 use Rattle.plane.specs.declared.Point.{Point}
 use Rattle.plane.specs.Points.{area, det, grid_point, spot_at, vertex_of}
 use Rattle.plane.specs.declared.Corners.{Corners}
 use Rattle.ears.specs.declared.shape.Shape.{Shape}
-use Rattle.ears.specs.Cutting.{triangle_of}
-use Rattle.ears.specs.Ears.{has_corner}
+use Rattle.ears.specs.Ears.{is_other}
 
 abbrev pub least : ℕ → ℕ → ℕ → ℕ
 least u v w = min (min u v) w
@@ -48,6 +47,10 @@ not_right a b q = int_le (pos 0) (det (grid_point a) (grid_point b) (spot_at (gr
 abbrev pub holds : Shape → Point → Bool
 holds s q = not_right s.a s.b q && (not_right s.b s.c q && not_right s.c s.a q)
 
--- what a vertex blocks, told by the box first
-abbrev pub blocks_in_box : List Point → Shape → ℕ → Bool
-blocks_in_box ps s v = in_box s (vertex_of ps v) && (not (has_corner (triangle_of s.corners) v) && holds s (vertex_of ps v))
+-- a vertex is in the triangle or on its border, told by the box first
+abbrev pub holds_in_box : List Point → Shape → ℕ → Bool
+holds_in_box ps s v = in_box s (vertex_of ps v) && holds s (vertex_of ps v)
+
+-- the corner at another position j than those of the triangle is, which stands at position i
+abbrev pub blocks_in_box : List Point → Shape → List ℕ → (i j : ℕ) → Bool
+blocks_in_box ps s cs i j = is_other (length cs) i j && holds_in_box ps s (slice_index cs j)

@@ -47,6 +47,7 @@ fn cut_all(points: &[Point], ring: &mut [u16], triangles: &mut [Corners]) -> Opt
 // Cuts the first ear off: its corner goes, and its triangle is the answer.
 #[tactic(auto, using(crate::proofs::Steps::off))]
 fn cut_ear(points: &[Point], ring: &mut [u16]) -> Option<Corners>
+    requires { 3 ≤ length ring.old }
     ensures { EarCutOff (place_of points.now) ring.old ring.new result }
 {
     let i = first_ear(points, ring)?;

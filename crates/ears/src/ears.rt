@@ -1,6 +1,6 @@
 //! Which corners of a polygon are ears.
-ghost use Rattle.std.specs.Prelude.{◌≡◌, ◌<◌, IfSome, length};
-ghost use Rattle.std.specs.List.{list_any};
+ghost use Rattle.std.specs.Prelude.{◌≡◌, ◌<◌, ◌≤◌, IfSome, length};
+ghost use Rattle.std.specs.List.{list_any, range_with_len};
 ghost use Rattle.plane.specs.Points.{place_of};
 ghost use Rattle.ears.specs.Cutting.{triangle_of};
 ghost use Rattle.ears.specs.Ears.{after as after_of, before as before_of, first_ear as first_ear_of, is_ear as is_ear_of, triangle_at};
@@ -12,6 +12,7 @@ use plane::{Corners, Point};
 // The lowest position that is an ear.
 #[tactic(auto, using(crate::proofs::Searches::found))]
 pub(crate) fn first_ear(points: &[Point], ring: &[u16]) -> Option<usize>
+    requires { 3 ≤ length ring.now }
     ensures value { result ≡ first_ear_of (place_of points.now) ring.now }
     ensures within { IfSome result (λ i. i < length ring.now) }
 {
@@ -23,22 +24,32 @@ pub(crate) fn first_ear(points: &[Point], ring: &[u16]) -> Option<usize>
     None
 }
 
-// Whether the triangle at a position turns left, and no other corner lies in it or on its border.
+// Whether the triangle at a position turns left, and no other corner of the list lies in it or on its border.
 #[tactic(auto, using(crate::proofs::Boxes::told_by_box))]
 fn is_ear(points: &[Point], ring: &[u16], i: usize) -> bool
-    requires { i < length ring.now }
+    requires several { 3 ≤ length ring.now }
+    requires inside { i < length ring.now }
     ensures { result ≡ is_ear_of (place_of points.now) ring.now i }
 {
     let shape = Shape::of(points, corners_at(ring, i));
-    shape.is_left() && !is_blocked(points, ring, &shape)
+    shape.is_left() && !is_blocked(points, ring, i, &shape)
 }
 
-// Whether some corner blocks the triangle.
-fn is_blocked(points: &[Point], ring: &[u16], shape: &Shape) -> bool
-    ensures { result ≡ list_any (blocks_in_box points.now shape.now) ring.now }
+// Whether a corner at another position than `i` and the two beside it lies in a triangle: of those from two behind `i` round to two before it.
+#[tactic(auto, using(crate::proofs::Others::told_by_parts))]
+fn is_blocked(points: &[Point], ring: &[u16], i: usize, shape: &Shape) -> bool
+    requires several { 3 ≤ length ring.now }
+    requires inside { i < length ring.now }
+    ensures { result ≡ list_any (blocks_in_box points.now shape.now ring.now i) (range_with_len 0 (length ring.now)) }
 {
-    ring.iter()
-        .any(|vertex| shape.is_blocked_by(points, *vertex))
+    let last = ring.len() - 1;
+    if i == 0 {
+        return shape.holds_any(points, &ring[2..last]);
+    }
+    if i == last {
+        return shape.holds_any(points, &ring[1..last - 1]);
+    }
+    shape.holds_any(points, &ring[..i - 1]) || shape.holds_any(points, &ring[i + 2..])
 }
 
 // The corner at a position with its two neighbours.

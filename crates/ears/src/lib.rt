@@ -3,6 +3,7 @@
 
 ghost use Rattle.ears.specs.Cutting.{CutIsCut};
 ghost use Rattle.ears.specs.Examples.{EarExamples};
+ghost use Rattle.ears.specs.Numbers.{EarsByNumber};
 
 mod cutting;
 mod ears;
@@ -13,6 +14,12 @@ pub use cutting::cut;
 /// Wherever a polygon can be cut at its ears, the triangles are a cut of it, and each turns left.
 pub fn cut_is_cut()
     ensures { CutIsCut }
+{}
+
+/// Where no vertex is named twice, the other corners of an ear are told by their numbers as by their positions.
+#[tactic(auto, using(crate::proofs::Numbers::ears_by_number))]
+pub fn ears_by_number_stand()
+    ensures { EarsByNumber }
 {}
 
 /// The worked examples of cutting follow from the definitions.

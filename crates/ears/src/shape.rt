@@ -1,9 +1,8 @@
 //! A triangle with where its corners are, and whether a vertex lies in it.
 ghost use Rattle.std.specs.Prelude.{◌≡◌};
+ghost use Rattle.std.specs.List.{list_any};
 ghost use Rattle.plane.specs.Points.{det, grid_point, side_of, spot_at};
-ghost use Rattle.ears.specs.Cutting.{triangle_of};
-ghost use Rattle.ears.specs.Ears.{has_corner};
-ghost use Rattle.ears.specs.Shapes.{blocks_in_box, greatest as greatest_of, holds as holds_of, in_box as in_box_of, in_range as in_range_of, least as least_of, not_right, shape_of, turns_left};
+ghost use Rattle.ears.specs.Shapes.{greatest as greatest_of, holds as holds_of, holds_in_box, in_box as in_box_of, in_range as in_range_of, least as least_of, not_right, shape_of, turns_left};
 
 use plane::{Corners, Kernel, Point, Side, WholeTip, place};
 
@@ -49,20 +48,21 @@ impl Shape {
         side(self.a, self.b, self.c) == Side::Left
     }
 
-    // Whether a vertex is none of its corners and lies in it or on its border. Most lie outside the box, and cost no product.
-    pub(crate) fn is_blocked_by(&self, points: &[Point], vertex: u16) -> bool
-        ensures { result ≡ blocks_in_box points.now self.now vertex }
+    // Whether one of these vertices is in it or on its border.
+    pub(crate) fn holds_any(&self, points: &[Point], vertices: &[u16]) -> bool
+        ensures { result ≡ list_any (holds_in_box points.now self.now) vertices.now }
     {
-        let q = place(points, vertex);
-        self.is_boxing(q) && !self.has_corner(vertex) && self.holds(q)
+        vertices
+            .iter()
+            .any(|vertex| self.holds_vertex(points, *vertex))
     }
 
-    // Whether a vertex is one of its corners.
-    fn has_corner(&self, vertex: u16) -> bool
-        ensures { result ≡ has_corner (triangle_of self.now.corners) vertex }
+    // Whether a vertex is. Most lie outside the box, and cost no product.
+    fn holds_vertex(&self, points: &[Point], vertex: u16) -> bool
+        ensures { result ≡ holds_in_box points.now self.now vertex }
     {
-        let Corners { a, b, c } = self.corners;
-        vertex == a || vertex == b || vertex == c
+        let q = place(points, vertex);
+        self.is_boxing(q) && self.holds(q)
     }
 
     // Whether a point is in its box.

@@ -56,6 +56,11 @@ fn refuses(rt: HostRuntime) -> Result<(), Fail> {
     let stuck = Err(Cause::Stuck);
     assert_eq!(rt; cut(&square, &mut [3, 2, 1, 0], &mut triangles), stuck);
     assert_eq!(rt; cut(&square, &mut [0, 1], &mut triangles), stuck);
+    // Vertex 1 is named twice: beside the triangle of 0, 1 and 2 it stands once more.
+    let slit = [at(3, 2), at(0, 0), at(6, 0), at(3, 6), at(7, 5)];
+    let mut scratch = [Corners::default(); 4];
+    assert_eq!(rt; cut(&slit, &mut [1, 2, 4, 3, 1, 0], &mut scratch), stuck);
+    assert_eq!(rt; scratch[0], of(2, 4, 3));
     let short = Err(Cause::TableTooShort);
     assert_eq!(rt; cut(&square, &mut [0, 1, 2, 3], &mut triangles[..1]), short);
     Ok(())

@@ -19,4 +19,8 @@ returns c =
       clockwise = refl;
       in_line = refl;
       two = refl;
+      slit_first = refl;
+      slit_blocked = refl;
+      slit_by_number = refl;
+      slit_stuck = refl;
     }
