@@ -5,3 +5,4 @@ pub mod Whole
 pub mod Unaltered
 pub mod Told
 pub mod Loaded
+pub mod Judged

@@ -1,3 +1,4 @@
 pub mod Entries
 pub mod Held
 pub mod Checks
+pub mod Judging

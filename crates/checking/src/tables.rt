@@ -4,6 +4,7 @@ ghost use Rattle.rules.specs.Rules.{first_broken as first_broken_of};
 ghost use Rattle.checking.specs.Checks.{SheetChecked, check_room, check_said, tables_said};
 ghost use Rattle.checking.specs.Entries.{wrong_entry as wrong_entry_of};
 ghost use Rattle.checking.specs.Held.{held_sheet};
+ghost use Rattle.checking.specs.Judging.{SheetJudged};
 
 use crate::entries::{front, wrong_entry};
 use plane::{Edge, Point};
@@ -61,7 +62,7 @@ fn judge(
 }
 
 /// Whether the tables hold a sheet that keeps the eight rules, or why not; `strokes` is scratch.
-#[tactic(auto, using(crate::proofs::Told::sheet_told, crate::proofs::Told::short_told))]
+#[tactic(auto, using(crate::proofs::Told::sheet_told, crate::proofs::Told::short_told, crate::proofs::Judged::sheet_judged, crate::proofs::Judged::short_judged))]
 pub fn check_tables(
     size: Size,
     points: &[Point],
@@ -71,6 +72,7 @@ pub fn check_tables(
 ) -> Result<(), Refusal>
     ensures said { result ≡ tables_said size points.now edges.now loops.now (length strokes.old) }
     ensures sheet { SheetChecked size points.now edges.now loops.now (length strokes.old) result }
+    ensures rules { SheetJudged size points.now edges.now loops.now (length strokes.old) result }
 {
     if !have_room(points, edges, loops, strokes) {
         return Err(Refusal::new(Cause::TableTooShort, Layer::Check, 0));

@@ -16,11 +16,11 @@ use Rattle.rules.specs.Segments.{boxes_meet, in_box, in_range, meet_at, ranges_m
 -- ---- over the integers: (U, V) from a to b, (X, Y) from a to q
 
 -- X is from 0 to U
-record Ranged (U X : ℤ) : Type 0 where
-  up_low : pos 0 ≤ℤ U → pos 0 ≤ℤ X
-  up_high : pos 0 ≤ℤ U → X ≤ℤ U
-  down_low : U ≤ℤ pos 0 → U ≤ℤ X
-  down_high : U ≤ℤ pos 0 → X ≤ℤ pos 0
+pub record Ranged (U X : ℤ) : Type 0 where
+  pub up_low : pos 0 ≤ℤ U → pos 0 ≤ℤ X
+  pub up_high : pos 0 ≤ℤ U → X ≤ℤ U
+  pub down_low : U ≤ℤ pos 0 → U ≤ℤ X
+  pub down_high : U ≤ℤ pos 0 → X ≤ℤ pos 0
 
 not_below : (x n : ℤ) → pos 0 <ℤ n → pos 0 ≤ℤ (x *ℤ n) → pos 0 ≤ℤ x
 not_below x n h k = by_lt_z x (pos 0) (λ (l : x <ℤ pos 0). let q = times-<> x n l h in absurd (omega lin)) (λ (l : pos 0 ≤ℤ x). l)
@@ -75,7 +75,7 @@ module _ (a b q : GridPoint) where
   unfolding along det same?
   left_y = ring vars (((bˢ.y ⊖ aˢ.y) ⊖ (qˢ.y ⊖ aˢ.y)) ⊗ (aheadˢ aˢ bˢ pˢ ⊕ aheadˢ bˢ aˢ pˢ)) ((bˢ.y ⊖ aˢ.y) ⊗ aheadˢ bˢ aˢ pˢ ⊖ (bˢ.x ⊖ aˢ.x) ⊗ detˢ aˢ bˢ pˢ) tt
 
-  ahead_parts : ahead a b p ≡ (b.x -ℤ a.x) *ℤ (q.x -ℤ a.x) +ℤ (b.y -ℤ a.y) *ℤ (q.y -ℤ a.y)
+  pub ahead_parts : ahead a b p ≡ (b.x -ℤ a.x) *ℤ (q.x -ℤ a.x) +ℤ (b.y -ℤ a.y) *ℤ (q.y -ℤ a.y)
   unfolding along same?
   ahead_parts = ring vars (aheadˢ aˢ bˢ pˢ) ((bˢ.x ⊖ aˢ.x) ⊗ (qˢ.x ⊖ aˢ.x) ⊕ (bˢ.y ⊖ aˢ.y) ⊗ (qˢ.y ⊖ aˢ.y)) tt
 
@@ -92,7 +92,7 @@ product_sign U X r =
     (λ (m : X <ℤ pos 0). inl (times-<< U X (by_lt_z U (pos 0) (λ (n : U <ℤ pos 0). n) (λ (n : pos 0 ≤ℤ U). let k = r.up_low n in absurd (omega lin))) m))
     (λ (m : pos 0 ≤ℤ X). let e : X ≡ pos 0 = omega lin in inr (e, zero_right U X e)))
 
-sum_sign : (U V X Y : ℤ) → Ranged U X → Ranged V Y → (pos 0 <ℤ (U *ℤ X +ℤ V *ℤ Y)) ⊎ ((X ≡ pos 0) × (Y ≡ pos 0))
+pub sum_sign : (U V X Y : ℤ) → Ranged U X → Ranged V Y → (pos 0 <ℤ (U *ℤ X +ℤ V *ℤ Y)) ⊎ ((X ≡ pos 0) × (Y ≡ pos 0))
 sum_sign U V X Y r s =
     let go : (m n : ℤ) → pos 0 <ℤ m → pos 0 <ℤ n → pos 0 <ℤ (m +ℤ n) = λ m n h k. omega lin in
     let go_left : (m n : ℤ) → pos 0 <ℤ m → n ≡ pos 0 → pos 0 <ℤ (m +ℤ n) = λ m n h k. omega lin in
@@ -212,7 +212,7 @@ module _ (a b q : Point) where
             down_high = λ k. let h = r.down_low k in omega lin;
           }
 
-same_tests : (u v : Bool) → (u ≡ true → v ≡ true) → (v ≡ true → u ≡ true) → u ≡ v
+pub same_tests : (u v : Bool) → (u ≡ true → v ≡ true) → (v ≡ true → u ≡ true) → u ≡ v
 same_tests true v to from = sym (to refl)
 same_tests false true to from = from refl
 same_tests false false to from = refl
@@ -293,15 +293,15 @@ module _ (a b c d : GridPoint) where
   abbrev of_d : Expr
   of_d = detˢ a₄ b₄ (spot_atˢ d₄)
 
-  sides_balance : (det c d (spot_at a) -ℤ det c d (spot_at b)) +ℤ (det a b (spot_at c) -ℤ det a b (spot_at d)) ≡ pos 0
+  pub sides_balance : (det c d (spot_at a) -ℤ det c d (spot_at b)) +ℤ (det a b (spot_at c) -ℤ det a b (spot_at d)) ≡ pos 0
   unfolding det same?
   sides_balance = ring four ((of_a ⊖ of_b) ⊕ (of_c ⊖ of_d)) (lit (pos 0)) tt
 
-  sides_weigh_x : (det c d (spot_at a) *ℤ b.x -ℤ det c d (spot_at b) *ℤ a.x) +ℤ (det a b (spot_at c) *ℤ d.x -ℤ det a b (spot_at d) *ℤ c.x) ≡ pos 0
+  pub sides_weigh_x : (det c d (spot_at a) *ℤ b.x -ℤ det c d (spot_at b) *ℤ a.x) +ℤ (det a b (spot_at c) *ℤ d.x -ℤ det a b (spot_at d) *ℤ c.x) ≡ pos 0
   unfolding det same?
   sides_weigh_x = ring four ((of_a ⊗ b₄.x ⊖ of_b ⊗ a₄.x) ⊕ (of_c ⊗ d₄.x ⊖ of_d ⊗ c₄.x)) (lit (pos 0)) tt
 
-  sides_weigh_y : (det c d (spot_at a) *ℤ b.y -ℤ det c d (spot_at b) *ℤ a.y) +ℤ (det a b (spot_at c) *ℤ d.y -ℤ det a b (spot_at d) *ℤ c.y) ≡ pos 0
+  pub sides_weigh_y : (det c d (spot_at a) *ℤ b.y -ℤ det c d (spot_at b) *ℤ a.y) +ℤ (det a b (spot_at c) *ℤ d.y -ℤ det a b (spot_at d) *ℤ c.y) ≡ pos 0
   unfolding det same?
   sides_weigh_y = ring four ((of_a ⊗ b₄.y ⊖ of_b ⊗ a₄.y) ⊕ (of_c ⊗ d₄.y ⊖ of_d ⊗ c₄.y)) (lit (pos 0)) tt
 

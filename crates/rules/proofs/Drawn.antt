@@ -23,7 +23,7 @@ has_split : (l : List Edge) (x e : Edge) → Has (l ++ x ∷ []) e → Has l e �
 has_split l x e (inl i) = elim (in_split e l (x ∷ []) i) [ inl j ↦ inl (inl j) | inr (inl q) ↦ inr (inl q) | inr (inr n) ↦ absurd n ]
 has_split l x e (inr i) = elim (in_split (back e) l (x ∷ []) i) [ inl j ↦ inl (inr j) | inr (inl q) ↦ inr (inr q) | inr (inr n) ↦ absurd n ]
 
-listed_back : (before : List Edge) (x : Edge) → is_listed before (back x) ≡ true → In (back x) before
+pub listed_back : (before : List Edge) (x : Edge) → is_listed before (back x) ≡ true → In (back x) before
 listed_back before x h = let r = some_passes (same_edge (back x)) before h in subst (λ f. In f before) (same_edge_true (back x) r.0 r.2) r.1
 
 has_back : (l : List Edge) (x e : Edge) → In (back x) l → (e ≡ x) ⊎ (back e ≡ x) → Has l e

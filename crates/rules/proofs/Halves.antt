@@ -58,28 +58,29 @@ has_turned : (es : List Edge) (e : Edge) → Has es (back e) → Has es e
 has_turned es e (inl i) = inr i
 has_turned es e (inr i) = inl i
 
--- each edge is another one than its reverse, and neither of the two follows
-abbrev Single : List Edge → Type 0
+-- neither an edge nor its reverse follows
+abbrev pub Single : List Edge → Type 0
 Single [] = Unit {0}
-Single (e ∷ es) = (¬ (e ≡ back e)) × (¬ (Has es e)) × Single es
+Single (e ∷ es) = (¬ (Has es e)) × Single es
 
-once_pairs : (es : List Edge) → Single es → Once (pairs es)
-once_pairs [] single = tt
-once_pairs (e ∷ es) single = (
-  λ i. elim i [ inl q ↦ single.0 q | inr j ↦ single.1 (pairs_has es e j) ],
-  (λ i. single.1 (has_turned es e (pairs_has es (back e) i)), once_pairs es single.2),
+-- so each stands once among the pairs, where it is another one than its reverse
+once_pairs : (es : List Edge) → Single es → ((e : Edge) → In e es → ¬ (e ≡ back e)) → Once (pairs es)
+once_pairs [] single turned = tt
+once_pairs (e ∷ es) single turned = (
+  λ i. elim i [ inl q ↦ turned e (inl refl) q | inr j ↦ single.0 (pairs_has es e j) ],
+  (λ i. single.0 (has_turned es e (pairs_has es (back e) i)), once_pairs es single.1 (λ f i. turned f (inr i))),
 )
 
 -- ---- the edges that are drawn are single
 
 -- what is in a list is found there
-listed_in : (l : List Edge) (e : Edge) → In e l → is_listed l e ≡ true
+pub listed_in : (l : List Edge) (e : Edge) → In e l → is_listed l e ≡ true
 listed_in [] e i = absurd i
 listed_in (x ∷ l) e (inl q) = subst (λ y. is_listed (y ∷ l) e ≡ true) q (ap (λ b. b || is_listed l e) (same_edge_itself e))
 listed_in (x ∷ l) e (inr i) = elim (same_edge e x) as (λ b. (b || is_listed l e) ≡ true) [ true ↦ refl | false ↦ listed_in l e i ]
 
 -- what is drawn is listed
-drawn_in : (before es : List Edge) (e : Edge) → In e (first_listed before es) → In e es
+pub drawn_in : (before es : List Edge) (e : Edge) → In e (first_listed before es) → In e es
 drawn_in before [] e i = i
 drawn_in before (x ∷ es) e i =
     let rest = first_listed (before ++ x ∷ []) es in
@@ -101,16 +102,15 @@ drawn_first before (x ∷ es) e i = λ h.
     ] refl i
 
 -- so the reverse of what is drawn is not drawn
-drawn_single : (before es : List Edge) → Once es → ((e : Edge) → In e es → ¬ (e ≡ back e)) → Single (first_listed before es)
-drawn_single before [] once turned = tt
-drawn_single before (x ∷ es) once turned =
+pub drawn_single : (before es : List Edge) → Once es → Single (first_listed before es)
+drawn_single before [] once = tt
+drawn_single before (x ∷ es) once =
     let behind = before ++ x ∷ [] in
     let rest = first_listed behind es in
-    let later = drawn_single behind es once.1 (λ e i. turned e (inr i)) in
+    let later = drawn_single behind es once.1 in
     elim (is_listed before (back x)) as (λ b. Single (cond b rest (x ∷ rest))) [
       | true ↦ later
       | false ↦ (
-        turned x (inl refl),
         λ h. elim h [ inl i ↦ once.0 (drawn_in behind es x i) | inr i ↦ drawn_first behind es (back x) i (in_right x before (x ∷ []) (inl refl)) ],
         later,
       )
@@ -148,7 +148,7 @@ nothing_said : {X : Type 0} (o : Option X) → is_some o ≡ false → o ≡ Non
 nothing_said None h = refl
 nothing_said (Some x) h = cc
 
-ring_once : (r : Ring) → names_twice r ≡ false → Once r.corners
+pub ring_once : (r : Ring) → names_twice r ≡ false → Once r.corners
 ring_once r h =
     once_from_free eqb (λ v. eq-eqb v v refl) r.corners (IsFree-from_None eqb r.corners (nothing_said (first_clash_in eqb r.corners) h))
 
@@ -183,6 +183,7 @@ module _ (s : Sheet) (legal : LegalSheet s) (loops : loops_broken s ≡ None) (e
   pub few_drawn : length (drawn_edges s) ≤ 3077
   few_drawn =
       let once = once_from_free same_edge same_edge_itself (edges_of s) (edges_free s edges) in
-      let single = drawn_single [] (edges_of s) once (λ e i q. edges_join e i (ap (λ (f : Edge). f.from) q)) in
-      let fits = no_longer (pairs (drawn_edges s)) (edges_of s) (once_pairs (drawn_edges s) single) pairs_listed in
+      let turned : (e : Edge) → In e (drawn_edges s) → ¬ (e ≡ back e) = λ e i q. edges_join e (drawn_in [] (edges_of s) e i) (ap (λ (f : Edge). f.from) q) in
+      let pairs_once = once_pairs (drawn_edges s) (drawn_single [] (edges_of s) once) turned in
+      let fits = no_longer (pairs (drawn_edges s)) (edges_of s) pairs_once pairs_listed in
       omega (arith, fits, pairs_length (drawn_edges s), few_listed)

@@ -15,3 +15,10 @@ pub mod Boxes
 pub mod Listing
 pub mod Halves
 pub mod Rooms
+pub mod Places
+pub mod SharedPoints
+pub mod Touching
+pub mod RulePlaces
+pub mod RulesKept
+pub mod Sound
+pub mod EitherWay

@@ -52,7 +52,7 @@ module _ (ps : List Point) (e f : Edge) where
   boxed : ℕ → ℕ → Type 0
   boxed u v = boxes_meet (at e.from) (at e.to) (at u) (at v) ≡ true
 
-  touch_by_box : touch (place_of ps) e f ≡ strokes_touch (stroke_of ps e) (stroke_of ps f)
+  pub touch_by_box : touch (place_of ps) e f ≡ strokes_touch (stroke_of ps e) (stroke_of ps f)
   unfolding at boxed
   touch_by_box =
       let near = boxes_meet (at e.from) (at e.to) (at f.from) (at f.to) in

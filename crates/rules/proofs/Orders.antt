@@ -23,7 +23,7 @@ use Rattle.rules.proofs.Nothing.{Kept, edges_free, kept, nothing_made, points_fr
 
 -- ---- points
 
-grid_same : (a b : Point) → grid_point a ≡ grid_point b → same_point b a ≡ true
+pub grid_same : (a b : Point) → grid_point a ≡ grid_point b → same_point b a ≡ true
 grid_same a b e =
     let x : a.x ≡ b.x = cc (ap (λ p. p.x) e) in
     let y : a.y ≡ b.y = cc (ap (λ p. p.y) e) in

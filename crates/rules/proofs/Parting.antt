@@ -20,12 +20,12 @@ opposite_swap u v h = grind lin
 opposite_neg : (u v x y : ℤ) → x ≡ neg_ℤ u → y ≡ neg_ℤ v → opposite u v ≡ true → opposite x y ≡ true
 opposite_neg u v x y e f h = grind lin
 
-cross_swap : (a b c d : GridPoint) → cross a b c d ≡ true → cross c d a b ≡ true
+pub cross_swap : (a b c d : GridPoint) → cross a b c d ≡ true → cross c d a b ≡ true
 cross_swap a b c d h =
     let r = and_parts (opposite (det a b (spot_at c)) (det a b (spot_at d))) (opposite (det c d (spot_at a)) (det c d (spot_at b))) h in
     and_from (opposite (det c d (spot_at a)) (det c d (spot_at b))) (opposite (det a b (spot_at c)) (det a b (spot_at d))) r.1 r.0
 
-cross_turn : (a b c d : GridPoint) → cross a b d c ≡ true → cross a b c d ≡ true
+pub cross_turn : (a b c d : GridPoint) → cross a b d c ≡ true → cross a b c d ≡ true
 cross_turn a b c d h =
     let r = and_parts _ _ h in
     and_from _ _ (opposite_swap (det a b (spot_at d)) (det a b (spot_at c)) r.0)
@@ -56,7 +56,7 @@ not_inside a b q h k = both_ways (between a b (spot_at q)) (or_parts (is_at b (s
 pub not_start : (a b : GridPoint) → ¬ (Between a b (spot_at a))
 not_start a b = start_not_between a b (spot_at a) (at_spot a)
 
-from_meet : (a b c d : GridPoint) → meet a b c d ≡ false → Parted a b c d
+pub from_meet : (a b c d : GridPoint) → meet a b c d ≡ false → Parted a b c d
 from_meet a b c d h =
     let l = or_parts (lies_on a b c || lies_on a b d) _ h in
     let r = or_parts (lies_on c d a || lies_on c d b) (cross a b c d) l.1 in

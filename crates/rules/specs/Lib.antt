@@ -6,3 +6,5 @@ pub mod Tables
 pub mod Apart
 pub mod Segments
 pub mod Strokes
+pub mod Sound
+pub mod EitherWay

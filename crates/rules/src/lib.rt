@@ -3,7 +3,9 @@
 
 ghost use Rattle.rules.specs.Apart.{CheckedLiesApart};
 ghost use Rattle.rules.specs.Broken.{RuleExamples};
+ghost use Rattle.rules.specs.EitherWay.{ClashesEitherWay, TouchTells};
 ghost use Rattle.rules.specs.Planes.{CheckedIsInOrder};
+ghost use Rattle.rules.specs.Sound.{RulesTell};
 ghost use Rattle.rules.specs.Tables.{TablesTell};
 
 mod broken;
@@ -37,4 +39,20 @@ pub fn rule_examples_stand()
 /// What the tables of a sheet break is what the sheet breaks.
 pub fn tables_tell_stands()
     ensures { TablesTell }
+{}
+
+/// What the rules tell of a sheet is said in the subject's words: nothing exactly where all eight hold, and else the least that is broken,
+/// at the least place where it is.
+pub fn rules_tell_stands()
+    ensures { RulesTell }
+{}
+
+/// Points, directed edges, and edges of a sheet clash either way round.
+pub fn clashes_either_way_stand()
+    ensures { ClashesEitherWay }
+{}
+
+/// Two edges touch, by determinants of sheet points, exactly where they share a point in common, or overlap from a vertex in common.
+pub fn touch_tells_stands()
+    ensures { TouchTells }
 {}
