@@ -5,4 +5,5 @@ pub mod Looks
 pub mod Totals
 pub mod Bottoms
 pub mod Balance
+pub mod Causes
 pub mod Theorems

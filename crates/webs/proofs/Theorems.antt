@@ -1,5 +1,5 @@
 -- The theorems.
-use Rattle.std.proofs.Common.{◌≡◌, ℕ, zero, suc, ◌+◌, ◌*◌, ◌<◌, ◌≤◌, Bool, true, false, cond, ◌==◌, List, [], ◌∷◌, ◌++◌, length, get_or, nat_le, nat_lt, Some, None, Option, Ok, Err, Result, sym, refl, ap, ap₂, ◌∙◌, subst, append-nil, inl, inr, arith, ne_eqb}
+use Rattle.std.proofs.Common.{◌≡◌, ℕ, zero, suc, ◌+◌, ◌*◌, ◌<◌, ◌≤◌, Bool, true, false, cond, ◌==◌, List, [], ◌∷◌, ◌++◌, length, get_or, nat_le, nat_lt, Some, None, Option, Ok, Err, Result, sym, refl, ap, ap₂, ◌∙◌, subst, append-nil, inl, inr, arith, ne_eqb, length-append}
 use Rattle.std.proofs.lemmas.Bool.{and_from, cond-false, cond-true, le-leb, le-ltb, lt-ltb, false≢true}
 use Rattle.std.proofs.lemmas.List.{drop_all}
 use Rattle.lent.specs.Kept.{over}
@@ -25,60 +25,48 @@ use Rattle.checking.specs.Held.{Holds}
 use Rattle.checking.proofs.Unaltered.{one_held}
 use Rattle.bottom.specs.Bottom.{bottom_of}
 use Rattle.bottom.specs.Cuts.{bottom_count, cut_said, or_stuck, or_wrong, sheet_cut}
-use Rattle.rounds.specs.Choices.{Found, look_all, nothing_found, rounded_live, rounded_nodes}
+use Rattle.rounds.specs.Choices.{Found, closings, look_all, nothing_found, rounded_live, rounded_nodes}
 use Rattle.rounds.specs.Rounds.{Rounded, found_said, has_vertices, is_live, look_said, most_nodes, or_next, right_said, round_next, round_said, unless, wrong_live, wrong_node, wrong_nodes, wrong_number}
 use Rattle.sealing.specs.Seals.{left_said, seal_next, seal_said}
 use Rattle.hierarchy.specs.Layers.{triangle_of}
 use Rattle.hierarchy.specs.Layers.Layers.{round}
 use Rattle.hierarchy.specs.Theorems.{Ascends, Made}
 use Rattle.hierarchy.proofs.Growth.{Kept}
+use Rattle.hierarchy.proofs.Looks.{seen}
 use Rattle.hierarchy.proofs.TakesOut.{round_takes_out}
 use Rattle.hierarchy.proofs.Theorems.{ground_nodes, keeps}
-use Rattle.webs.specs.Theorems.{CutIsInRange, FansClose, InRange, LayersAreCounted, NoFanIsBroken, NoNumberIsWrong, RoundIsInRange, SealTellsLeft, left_told}
+use Rattle.webs.specs.Theorems.{CutIsUnhindered, FansClose, LayersAreCounted, Never, NoFanIsBroken, NoNumberIsWrong, RoundIsUnhindered, SealTellsLeft, Unhindered, left_told}
 use Rattle.webs.proofs.Balance.{balanced}
 use Rattle.webs.proofs.Bottoms.{Balanced, sum_right}
+use Rattle.webs.proofs.Causes.{either, granted_so, other_cause}
 use Rattle.webs.proofs.Fans.{fan_closes}
 use Rattle.webs.proofs.Looks.{looks}
 use Rattle.webs.proofs.Sides.{Web}
 
--- ---- refusals of other causes
-
-pub other_cause : {X : Type 0} (c : Cause) (place : ℕ) → (number c ≡ 27 → ⊥) → InRange {X = X} (Err (refused c Build place))
-other_cause c place other e is wrong = other (ap number (cause_of is ∙ wrong))
-  where
-    cause_of : {X : Type 0} {d e : Refusal} → ◌≡◌ {A = Result X Refusal} (Err d) (Err e) → d.cause ≡ e.cause
-    cause_of h = cc
-
-pub granted_so : {X : Type 0} (x : X) → InRange (Ok x)
-granted_so x e is wrong = cc
-
-none_left : number NoneLeft ≡ 27 → ⊥
-none_left e = omega arith
-
-stuck : number Stuck ≡ 27 → ⊥
-stuck e = omega arith
-
-full : number StoreFull ≡ 27 → ⊥
-full e = omega arith
-
 -- ---- the cut
 
-stuck_in_range : (r : Result (List Node) ℕ) → InRange (or_stuck r)
-stuck_in_range (Ok ns) = granted_so ns
-stuck_in_range (Err l) = other_cause Stuck l stuck
+stuck_never : (d : Cause) → (number Stuck ≡ number d → ⊥) → (r : Result (List Node) ℕ) → Never d (or_stuck r)
+stuck_never d other (Ok ns) = granted_so d ns
+stuck_never d other (Err l) = other_cause Stuck Build l d other
 
-cut_in_range : (b c : Bool) (i j : ℕ) (r : Result (List Node) ℕ) → b ≡ true → InRange (cond b (cond c (Err (refused StoreFull Build i)) (or_stuck r)) (Err (refused OutOfRange Build j)))
-cut_in_range true true i j r e = other_cause StoreFull i full
-cut_in_range true false i j r e = stuck_in_range r
-cut_in_range false c i j r e = absurd (false≢true e)
-
-pub cut_is_in_range : CutIsInRange
-unfolding cut_said
-cut_is_in_range z ps es ls room s holds none =
+pub cut_is_unhindered : CutIsUnhindered
+unfolding cut_said CutIsUnhindered
+cut_is_unhindered z ps es ls room s holds none =
     let o = one_held z ps es ls s holds in
     let said : cut_said z ps es ls room ≡ sheet_cut room s = λ i. or_wrong (o.0 i) (sheet_cut room (o.1 i)) in
-    subst InRange (sym said)
-    (cut_in_range (triangles_in s.rings == bottom_count (length s.inner)) (nat_lt room (bottom_count (length s.inner))) (bottom_count (length s.inner)) (length s.rings) (bottom_of s) (sum_right s none))
+    let right = sum_right s none in
+    let n = bottom_count (length s.inner) in
+    record {
+      in_range = subst (Never OutOfRange) (sym said)
+          (either OutOfRange (triangles_in s.rings == n) _ _
+          (λ _. either OutOfRange (nat_lt room n) _ _ (λ _. other_cause StoreFull Build n OutOfRange (λ e. omega arith)) (λ _. stuck_never OutOfRange (λ e. omega arith) (bottom_of s)))
+          (λ off. absurd (false≢true (sym off ∙ right))));
+      not_full = λ enough.
+          subst (Never StoreFull) (sym said)
+          (either StoreFull (triangles_in s.rings == n) _ _
+          (λ _. either StoreFull (nat_lt room n) _ _ (λ full. absurd (false≢true (sym (le-ltb room n enough) ∙ full))) (λ _. stuck_never StoreFull (λ e. omega arith) (bottom_of s)))
+          (λ off. absurd (false≢true (sym off ∙ right))));
+    }
 
 -- ---- numbers inside their ranges
 
@@ -190,20 +178,41 @@ module _ (s : Sheet) (nodes : List Node) (live made : List ℕ) (r : ℕ) (m : M
       let legal = m.legal.few in
       omega arith
 
-  refusal_in_range : (a b c d : Bool) (x y u w : ℕ) (n : Rounded) → d ≡ false
-      → InRange (unless (cond a (Some (refused NoneLeft Build x)) (cond b (Some (refused Stuck Build y)) (cond c (Some (refused StoreFull Build u)) (cond d (Some (refused OutOfRange Build w)) None)))) n)
-  refusal_in_range true b c d x y u w n e = other_cause NoneLeft x none_left
-  refusal_in_range false true c d x y u w n e = other_cause Stuck y stuck
-  refusal_in_range false false true d x y u w n e = other_cause StoreFull u full
-  refusal_in_range false false false true x y u w n e = absurd (false≢true (sym e))
-  refusal_in_range false false false false x y u w n e = granted_so n
+  -- and with it there are no more nodes than the sheet can have
+  full : length nodes + found.0.fresh ≤ most_nodes (length s.inner)
+  full =
+      let c = (balanced s m.legal m.checked _ _ _ _ (round nodes live made r m.layers found.0 found.1)).room in
+      let a = length-append nodes (closings at nodes live found.0.marks (length s.inner) 4) in
+      let b = (seen at nodes live (length s.inner) found.0 found.1).fresh in
+      omega arith
 
-  round_in_range : (rounds room table : ℕ) → 2050 ≤ table → InRange (round_said (size_of s) (points_of s) nodes live rounds room table)
-  round_in_range rounds room table long =
+  refusal_never : (d : Cause) (a b c e : Bool) (x y u w : Refusal) (n : Rounded) → Never {X = Rounded} d (Err x) → Never {X = Rounded} d (Err y)
+      → (c ≡ true → Never {X = Rounded} d (Err u)) → (e ≡ true → Never {X = Rounded} d (Err w))
+      → Never d (unless (cond a (Some x) (cond b (Some y) (cond c (Some u) (cond e (Some w) None)))) n)
+  refusal_never d true b c e x y u w n h k i j = h
+  refusal_never d false true c e x y u w n h k i j = k
+  refusal_never d false false true e x y u w n h k i j = i refl
+  refusal_never d false false false true x y u w n h k i j = j refl
+  refusal_never d false false false false x y u w n h k i j = granted_so d n
+
+  round_unhindered : (rounds room table : ℕ) → 2050 ≤ table → Unhindered (most_nodes (length s.inner)) room (round_said (size_of s) (points_of s) nodes live rounds room table)
+  round_unhindered rounds room table long =
       let l = short in
-      subst InRange (sym (round_is rounds room table))
-      (refusal_in_range (found.0.left == 0) (nat_lt (18 * found.0.chosen) found.0.left) (nat_lt room (length nodes + found.0.fresh)) (nat_lt table (length now.live))
-      0 (rounds + 1) (length nodes + found.0.fresh) table now (le-ltb table (length now.live) (omega arith)))
+      let c = length nodes + found.0.fresh in
+      let fits : nat_lt table (length now.live) ≡ false = le-ltb table (length now.live) (omega arith) in
+      let told = λ (d : Cause). refusal_never d (found.0.left == 0) (nat_lt (18 * found.0.chosen) found.0.left) (nat_lt room c) (nat_lt table (length now.live))
+          (refused NoneLeft Build 0) (refused Stuck Build (rounds + 1)) (refused StoreFull Build c) (refused OutOfRange Build table) now in
+      record {
+        in_range = subst (Never OutOfRange) (sym (round_is rounds room table))
+            (told OutOfRange (other_cause NoneLeft Build 0 OutOfRange (λ e. omega arith)) (other_cause Stuck Build (rounds + 1) OutOfRange (λ e. omega arith))
+            (λ _. other_cause StoreFull Build c OutOfRange (λ e. omega arith)) (λ off. absurd (false≢true (sym fits ∙ off))));
+        not_full = λ enough.
+            let f = full in
+            let fit : nat_lt room c ≡ false = le-ltb room c (omega arith) in
+            subst (Never StoreFull) (sym (round_is rounds room table))
+            (told StoreFull (other_cause NoneLeft Build 0 StoreFull (λ e. omega arith)) (other_cause Stuck Build (rounds + 1) StoreFull (λ e. omega arith))
+            (λ off. absurd (false≢true (sym fit ∙ off))) (λ off. absurd (false≢true (sym fits ∙ off))));
+      }
 
   -- ---- a seal
 
@@ -234,8 +243,9 @@ layers_are_counted s nodes live made rounds m = let b = even s nodes live made r
 pub no_number_is_wrong : NoNumberIsWrong
 no_number_is_wrong s nodes live made rounds m = numbers_right s nodes live made rounds m
 
-pub round_is_in_range : RoundIsInRange
-round_is_in_range s nodes live made r m = round_in_range s nodes live made r m
+pub round_is_unhindered : RoundIsUnhindered
+unfolding RoundIsUnhindered
+round_is_unhindered s nodes live made r m = round_unhindered s nodes live made r m
 
 pub seal_tells_left : SealTellsLeft
 seal_tells_left s nodes live made rounds m = seal_is s nodes live made rounds m

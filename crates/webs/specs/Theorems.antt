@@ -3,7 +3,8 @@ use Rattle.std.specs.Prelude.{◌≡◌, ℕ, zero, suc, ◌+◌, ◌*◌, ◌<�
 use Rattle.plane.specs.declared.Point.{Point}
 use Rattle.plane.specs.declared.Edge.{Edge}
 use Rattle.plane.specs.Points.{place_of}
-use Rattle.refusal.specs.declared.Cause.TheVariants.{OutOfRange, VerticesLeft}
+use Rattle.refusal.specs.declared.Cause.{Cause}
+use Rattle.refusal.specs.declared.Cause.TheVariants.{OutOfRange, StoreFull, VerticesLeft}
 use Rattle.refusal.specs.declared.Layer.TheVariants.{Build}
 use Rattle.refusal.specs.declared.Refusal.{Refusal}
 use Rattle.refusal.specs.Numbers.{refused}
@@ -16,7 +17,7 @@ use Rattle.sheet.specs.declared.tables.Size.{Size}
 use Rattle.sheet.specs.Sheets.{Sheet, points_of, size_of}
 use Rattle.rules.specs.Rules.{first_broken}
 use Rattle.checking.specs.Held.{Holds}
-use Rattle.bottom.specs.Cuts.{cut_said}
+use Rattle.bottom.specs.Cuts.{bottom_count, cut_said}
 use Rattle.rounds.specs.Choices.{Found, look_all}
 use Rattle.rounds.specs.Rounds.{most_nodes, round_said, wrong_number}
 use Rattle.sealing.specs.Seals.{seal_said}
@@ -49,23 +50,29 @@ NoNumberIsWrong =
 
 -- ---- what the turns tell
 
--- it is not refused because of a number outside its range, whatever the place
-abbrev pub InRange : {X : Type 0} → Result X Refusal → Type 0
-InRange said = (e : Refusal) → said ≡ Err e → e.cause ≡ OutOfRange → ⊥
+-- it is not refused for this cause, whatever the layer and the place
+abbrev pub Never : {X : Type 0} → Cause → Result X Refusal → Type 0
+Never cause said = (e : Refusal) → said ≡ Err e → e.cause ≡ cause → ⊥
 
--- a cut of tables that hold a checked sheet
-abbrev pub CutIsInRange : Type 0
-CutIsInRange =
+-- a turn that makes nodes finds no number outside its range, and no store too small where that has room for so many nodes
+pub record Unhindered {X : Type 0} (enough room : ℕ) (said : Result X Refusal) : Type 0 where
+  pub in_range : Never OutOfRange said
+  pub not_full : enough ≤ room → Never StoreFull said
+
+-- a cut of tables that hold a checked sheet, with a store for its bottom nodes
+unfoldable pub CutIsUnhindered : Type 0
+CutIsUnhindered =
     (z : Size) (ps : List Point) (es : List Edge) (ls : List Loop) (room : ℕ) (s : Sheet) → Holds z ps es ls s → first_broken s ≡ None
-    → InRange (cut_said z ps es ls room)
+    → Unhindered (bottom_count (length s.inner)) room (cut_said z ps es ls room)
 
--- a round over one of its layers, with a live table that is long enough
-abbrev pub RoundIsInRange : Type 0
-RoundIsInRange =
+-- a round over one of its layers, with a live table that is long enough, and a store for as many nodes as the sheet can have
+unfoldable pub RoundIsUnhindered : Type 0
+RoundIsUnhindered =
     (s : Sheet) (nodes : List Node) (live made : List ℕ) (r : ℕ) → Made s nodes live made r
-    → (rounds room table : ℕ) → 2050 ≤ table → InRange (round_said (size_of s) (points_of s) nodes live rounds room table)
+    → (rounds room table : ℕ) → 2050 ≤ table
+    → Unhindered (most_nodes (length s.inner)) room (round_said (size_of s) (points_of s) nodes live rounds room table)
 
--- refused while a vertex is left, and else granted
+-- refused while a vertex is left, with how many there are, and else granted
 abbrev pub left_told : ℕ → Result (Unit {0}) Refusal
 left_told zero = Ok tt
 left_told (suc n) = Err (refused VerticesLeft Build (suc n))

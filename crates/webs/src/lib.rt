@@ -3,7 +3,7 @@
 //! theorem, so that the check asks for its proof.
 #![tactic(auto)]
 
-ghost use Rattle.webs.specs.Theorems.{CutIsInRange, FansClose, LayersAreCounted, NoFanIsBroken, NoNumberIsWrong, RoundIsInRange, SealTellsLeft};
+ghost use Rattle.webs.specs.Theorems.{CutIsUnhindered, FansClose, LayersAreCounted, NoFanIsBroken, NoNumberIsWrong, RoundIsUnhindered, SealTellsLeft};
 
 /// The fan of every inner vertex that is left comes round to where it began, after the cut and after every round.
 #[tactic(auto, using(crate::proofs::Theorems::fans_close))]
@@ -29,16 +29,16 @@ pub fn no_number_is_wrong_stands()
     ensures { NoNumberIsWrong }
 {}
 
-/// A cut of a checked sheet is not refused because of a number outside its range.
-#[tactic(auto, using(crate::proofs::Theorems::cut_is_in_range))]
-pub fn cut_is_in_range_stands()
-    ensures { CutIsInRange }
+/// A cut of a checked sheet is not refused because of a number outside its range, nor a store that has room for the bottom nodes.
+#[tactic(auto, using(crate::proofs::Theorems::cut_is_unhindered))]
+pub fn cut_is_unhindered_stands()
+    ensures { CutIsUnhindered }
 {}
 
-/// Nor is a round.
-#[tactic(auto, using(crate::proofs::Theorems::round_is_in_range))]
-pub fn round_is_in_range_stands()
-    ensures { RoundIsInRange }
+/// Nor is a round, where the store has room for as many nodes as the sheet can have.
+#[tactic(auto, using(crate::proofs::Theorems::round_is_unhindered))]
+pub fn round_is_unhindered_stands()
+    ensures { RoundIsUnhindered }
 {}
 
 /// A seal is refused while a vertex is left, and is granted where none is.
