@@ -5,3 +5,4 @@ pub mod Standing
 pub mod Known
 pub mod Serving
 pub mod Lawful
+pub mod Unaltered

@@ -103,17 +103,17 @@ pub record Ready (s : Sheet) (b : Board) (live : List ℕ) (nodes : List Node) :
   pub two : length built.alive ≡ 2
 
 -- by its stage
-abbrev Come : Stage → Sheet → Board → List ℕ → List Node → Type 0
+abbrev pub Come : Stage → Sheet → Board → List ℕ → List Node → Type 0
 Come Draft s b live nodes = ⊥
 Come Checked s b live nodes = first_broken s ≡ None
 Come Layered s b live nodes = Built s b live nodes
 Come Sealed s b live nodes = Ready s b live nodes
 
-record Sound (s : Sheet) (b : Board) (ps : List Point) (es : List Edge) (ls : List Loop) (live : List ℕ) (nodes : List Node) : Type 0 where
-  holds : Holds b.size ps es ls s
-  come : Come b.stage s b live nodes
+pub record Sound (s : Sheet) (b : Board) (ps : List Point) (es : List Edge) (ls : List Loop) (live : List ℕ) (nodes : List Node) : Type 0 where
+  pub holds : Holds b.size ps es ls s
+  pub come : Come b.stage s b live nodes
 
-inner_same : (z : Size) (ps : List Point) (es : List Edge) (ls : List Loop) (s : Sheet) → Holds z ps es ls s → z.inner ≡ length s.inner
+pub inner_same : (z : Size) (ps : List Point) (es : List Edge) (ls : List Loop) (s : Sheet) → Holds z ps es ls s → z.inner ≡ length s.inner
 inner_same z ps es ls s h = ap (λ (z : Size). z.inner) (sym h.size)
 
 -- the front of the points table has the sheet's points
@@ -123,7 +123,7 @@ points_same b ps es ls s h =
     (λ i. take (n i) (sym h.points i)) ∙ take-append_seam (points_of s) (drop (length (points_of s)) ps)
 
 -- where the store has no more nodes than a sheet has, all that are live are counted
-all_counted : (s : Sheet) (b : Board) (live : List ℕ) (nodes : List Node) → length nodes ≤ 8194 → (h : Built s b live nodes)
+pub all_counted : (s : Sheet) (b : Board) (live : List ℕ) (nodes : List Node) → length nodes ≤ 8194 → (h : Built s b live nodes)
     → (length h.alive ≤ 65535) × (live_of b live ≡ h.alive)
 all_counted s b live nodes few h =
     let t = nodes_turn_left s nodes h.alive h.made h.rounds h.right in
@@ -132,13 +132,13 @@ all_counted s b live nodes few h =
     (n, ap (λ n. take n live) (h.counted n) ∙ h.front)
 
 -- the stage that a granted turn is of
-at_checked : (g : Stage) (s : Sheet) (b : Board) (live : List ℕ) (nodes : List Node) → is_checked g ≡ true → Come g s b live nodes → first_broken s ≡ None
+pub at_checked : (g : Stage) (s : Sheet) (b : Board) (live : List ℕ) (nodes : List Node) → is_checked g ≡ true → Come g s b live nodes → first_broken s ≡ None
 at_checked Draft s b live nodes h c = cc
 at_checked Checked s b live nodes h c = c
 at_checked Layered s b live nodes h c = cc
 at_checked Sealed s b live nodes h c = cc
 
-at_layered : (g : Stage) (s : Sheet) (b : Board) (live : List ℕ) (nodes : List Node) → is_layered g ≡ true → Come g s b live nodes → Built s b live nodes
+pub at_layered : (g : Stage) (s : Sheet) (b : Board) (live : List ℕ) (nodes : List Node) → is_layered g ≡ true → Come g s b live nodes → Built s b live nodes
 at_layered Draft s b live nodes h c = cc
 at_layered Checked s b live nodes h c = cc
 at_layered Layered s b live nodes h c = c
@@ -229,7 +229,7 @@ module _ (s : Sheet) (b : Board) (ps : List Point) (es : List Edge) (ls : List L
       let two = two_live (left_from nodes (live_of b live) b.size.inner 4) (length (live_of b live)) (right_seal (wrong_nodes b.size.inner nodes (live_of b live)) _ n.1).1 in
       (record { built = again; few = whole.0; same = whole.1; two = sym (ap length whole.1) ∙ two }, refl)
 
-sound : (s : Sheet) (b : Board) (ps : List Point) (es : List Edge) (ls : List Loop) (live : List ℕ) (nodes : List Node) → Stands s b ps es ls live nodes
+pub sound : (s : Sheet) (b : Board) (ps : List Point) (es : List Edge) (ls : List Loop) (live : List ℕ) (nodes : List Node) → Stands s b ps es ls live nodes
     → Sound s b ps es ls live nodes
 sound s b' ps' es' ls' live' nodes' (checked b ps es ls live nodes strokes holds h) =
     record { holds = holds; come = after_check s b ps es ls live nodes strokes holds h }

@@ -7,6 +7,7 @@ ghost use Rattle.rounds.specs.Rounds.{RoundLive, round_nodes};
 ghost use Rattle.board.specs.Turns.{SheetPasses, bare, check_board, checks, cut_board, cuts, round_board, round_room, rounds, seal_board, seals, is_loaded, is_sealed, list_answers, lists, load_board, loads, places};
 ghost use Rattle.board.specs.Standing.{ListTold, TipTold};
 ghost use Rattle.board.specs.Law.{ListRight, RightNext, SealFew};
+ghost use Rattle.board.specs.Unaltered.{CutUnaltered, RoundUnaltered, SealUnaltered};
 
 use crate::stage::{Board, Stage};
 use bottom::{LEAST_LIVE, cut_tables, have_room};
@@ -116,6 +117,7 @@ impl Board {
 
     /// Cuts the loops of a Checked sheet into the store, all of whose nodes are live then, and makes it Layered. A refusal leaves board,
     /// live table and store as they are, but a loop that is stuck leaves the store empty.
+    #[tactic(auto, using(crate::proofs::Unaltered::cut_unaltered))]
     pub fn cut<S: WriteStore>(
         &mut self,
         points: &[Point],
@@ -129,6 +131,7 @@ impl Board {
         ensures nodes { S.ReadStore.nodes store.new ≡ cut_nodes (cuts self.old points.now edges.now loops.now (length live.old) (S.WriteStore.room store.old)) (S.ReadStore.nodes store.old) }
         ensures room { S.WriteStore.room store.new ≡ S.WriteStore.room store.old }
         ensures live { live.new ≡ cut_live (cuts self.old points.now edges.now loops.now (length live.old) (S.WriteStore.room store.old)) live.old }
+        ensures unaltered { CutUnaltered self.old points.now edges.now loops.now live.old (S.ReadStore.nodes store.old) (S.WriteStore.room store.old) result }
     {
         if !have_room(points, edges, loops, live) {
             return Err(Refusal::new(Cause::TableTooShort, Layer::Build, 0));
@@ -148,6 +151,7 @@ impl Board {
 
     /// Takes out as many inner vertices of a Layered sheet as one round can, closes their holes with new nodes, and makes these live in place
     /// of the old. A refusal leaves board, live table and store as they are.
+    #[tactic(auto, using(crate::proofs::Unaltered::round_unaltered))]
     pub fn round<S: WriteStore>(
         &mut self,
         points: &[Point],
@@ -159,6 +163,7 @@ impl Board {
         ensures nodes { S.ReadStore.nodes store.new ≡ round_nodes (rounds self.old points.now live.old (S.ReadStore.nodes store.old) (S.WriteStore.room store.old)) (S.ReadStore.nodes store.old) }
         ensures room { S.WriteStore.room store.new ≡ S.WriteStore.room store.old }
         ensures live { RoundLive (rounds self.old points.now live.old (S.ReadStore.nodes store.old) (S.WriteStore.room store.old)) live.old live.new }
+        ensures unaltered { RoundUnaltered self.old points.now live.old (S.ReadStore.nodes store.old) (S.WriteStore.room store.old) result }
     {
         if !have_points(points, live) {
             return Err(Refusal::new(Cause::TableTooShort, Layer::Build, 0));
@@ -175,11 +180,12 @@ impl Board {
     }
 
     /// Makes a Layered sheet Sealed whose inner vertices are all taken out; a refusal leaves the board as it is.
-    #[tactic(auto, using(crate::proofs::Lawful::seal_few))]
+    #[tactic(auto, using(crate::proofs::Lawful::seal_few, crate::proofs::Unaltered::seal_unaltered))]
     pub fn seal<S: ReadStore>(&mut self, live: &[u16], store: &S) -> Result<(), Refusal>
         ensures said { result ≡ seals self.old live.now (S.nodes store.now) }
         ensures board { self.new ≡ seal_board (seals self.old live.now (S.nodes store.now)) self.old }
         ensures few { SealFew self.old live.now (S.nodes store.now) result }
+        ensures unaltered { SealUnaltered self.old live.now (S.nodes store.now) result }
     {
         if live.len() < LEAST_LIVE {
             return Err(Refusal::new(Cause::TableTooShort, Layer::Build, 0));

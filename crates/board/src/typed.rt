@@ -9,6 +9,7 @@ ghost use Rattle.rounds.specs.Rounds.{RoundLive, round_nodes};
 ghost use Rattle.board.specs.Turns.{bare, check_board, checks, cut_board, cuts, list_answers, lists, load_board, loads, places, round_board, rounds, seal_board, seals};
 ghost use Rattle.board.specs.Standing.{ListTold, TipTold};
 ghost use Rattle.board.specs.Law.{ListRight, RightNext, SealFew};
+ghost use Rattle.board.specs.Unaltered.{CutUnaltered, RoundUnaltered, SealUnaltered};
 ghost use Rattle.board.specs.Sheets.{board_of, checked_board, draft_board, layered_board, said_of, sealed_board};
 
 use crate::stage::{Board, Stage};
@@ -138,6 +139,7 @@ impl Checked {
         ensures nodes { S.ReadStore.nodes store.new ≡ cut_nodes (cuts (checked_board self) points.now edges.now loops.now (length live.old) (S.WriteStore.room store.old)) (S.ReadStore.nodes store.old) }
         ensures room { S.WriteStore.room store.new ≡ S.WriteStore.room store.old }
         ensures live { live.new ≡ cut_live (cuts (checked_board self) points.now edges.now loops.now (length live.old) (S.WriteStore.room store.old)) live.old }
+        ensures unaltered { CutUnaltered (checked_board self) points.now edges.now loops.now live.old (S.ReadStore.nodes store.old) (S.WriteStore.room store.old) (said_of result) }
     {
         let Checked { size } = self;
         let mut board = Board::at(Stage::Checked, size, 0, 0);
@@ -178,6 +180,7 @@ impl Layered {
         ensures nodes { S.ReadStore.nodes store.new ≡ round_nodes (rounds (layered_board self.old) points.now live.old (S.ReadStore.nodes store.old) (S.WriteStore.room store.old)) (S.ReadStore.nodes store.old) }
         ensures room { S.WriteStore.room store.new ≡ S.WriteStore.room store.old }
         ensures live { RoundLive (rounds (layered_board self.old) points.now live.old (S.ReadStore.nodes store.old) (S.WriteStore.room store.old)) live.old live.new }
+        ensures unaltered { RoundUnaltered (layered_board self.old) points.now live.old (S.ReadStore.nodes store.old) (S.WriteStore.room store.old) result }
     {
         let mut board = Board::at(Stage::Layered, self.size, self.live, self.rounds);
         let said = board.round(points, live, store);
@@ -191,6 +194,7 @@ impl Layered {
         ensures said { said_of result ≡ seals (layered_board self) live.now (S.nodes store.now) }
         ensures board { board_of sealed_board layered_board result ≡ seal_board (seals (layered_board self) live.now (S.nodes store.now)) (layered_board self) }
         ensures few { SealFew (layered_board self) live.now (S.nodes store.now) (said_of result) }
+        ensures unaltered { SealUnaltered (layered_board self) live.now (S.nodes store.now) (said_of result) }
     {
         let Layered {
             size,

@@ -9,6 +9,7 @@ ghost use Rattle.bottom.specs.Cuts.{cut_live, cut_nodes};
 ghost use Rattle.rounds.specs.Rounds.{RoundLive, round_nodes};
 ghost use Rattle.board.specs.Standing.{ListTold, TipTold};
 ghost use Rattle.board.specs.Law.{ListRight, RightNext, SealFew};
+ghost use Rattle.board.specs.Unaltered.{CutUnaltered, RoundUnaltered, SealUnaltered};
 ghost use Rattle.board.specs.Turns.{check_board, cut_board, list_answers, load_board, places, round_board, seal_board, seals};
 ghost use Rattle.desk.specs.Desks.{IsFresh, TablesStay, desk_checks, desk_cuts, desk_lists, desk_loads, desk_rounds};
 
@@ -119,6 +120,7 @@ impl Desk {
         ensures nodes { S.ReadStore.nodes store.new ≡ cut_nodes (desk_cuts self.old (S.WriteStore.room store.old)) (S.ReadStore.nodes store.old) }
         ensures room { S.WriteStore.room store.new ≡ S.WriteStore.room store.old }
         ensures live { self.new.live.items ≡ cut_live (desk_cuts self.old (S.WriteStore.room store.old)) self.old.live.items }
+        ensures unaltered { CutUnaltered self.old.board self.old.points.items self.old.edges.items self.old.loops.items self.old.live.items (S.ReadStore.nodes store.old) (S.WriteStore.room store.old) result }
         ensures tables { TablesStay self.old self.new }
     {
         let points = self.points.as_slice();
@@ -135,6 +137,7 @@ impl Desk {
         ensures nodes { S.ReadStore.nodes store.new ≡ round_nodes (desk_rounds self.old (S.ReadStore.nodes store.old) (S.WriteStore.room store.old)) (S.ReadStore.nodes store.old) }
         ensures room { S.WriteStore.room store.new ≡ S.WriteStore.room store.old }
         ensures live { RoundLive (desk_rounds self.old (S.ReadStore.nodes store.old) (S.WriteStore.room store.old)) self.old.live.items self.new.live.items }
+        ensures unaltered { RoundUnaltered self.old.board self.old.points.items self.old.live.items (S.ReadStore.nodes store.old) (S.WriteStore.room store.old) result }
         ensures table { length self.new.live.items ≡ length self.old.live.items }
         ensures tables { TablesStay self.old self.new }
     {
@@ -148,6 +151,7 @@ impl Desk {
         ensures said { result ≡ seals self.old.board self.old.live.items (S.nodes store.now) }
         ensures board { self.new.board ≡ seal_board (seals self.old.board self.old.live.items (S.nodes store.now)) self.old.board }
         ensures few { SealFew self.old.board self.old.live.items (S.nodes store.now) result }
+        ensures unaltered { SealUnaltered self.old.board self.old.live.items (S.nodes store.now) result }
         ensures live { self.new.live.items ≡ self.old.live.items }
         ensures tables { TablesStay self.old self.new }
     {
