@@ -9,14 +9,13 @@ use Rattle.plane.specs.Points.{Spot, is_on_sheet}
 use Rattle.refusal.specs.declared.Refusal.{Refusal}
 use Rattle.nodes.specs.declared.node.Node.{Node}
 use Rattle.sheet.specs.Load.{sheet_of}
-use Rattle.sheet.specs.Sheets.{Sheet, points_of}
+use Rattle.sheet.specs.Sheets.{Sheet, points_of, size_of}
 use Rattle.tiling.specs.Cells.{Cell, cell_holds}
 use Rattle.rules.specs.Planes.{plane_of}
 use Rattle.hierarchy.specs.Falls.{digits}
 use Rattle.hierarchy.specs.Layers.{Layers}
 use Rattle.placing.specs.Placings.{Names}
 use Rattle.walk.specs.declared.Found.{Found}
-use Rattle.walk.specs.Telling.{side_in}
 use Rattle.walk.specs.Walks.{find_said}
 use Rattle.board.specs.declared.stage.Board.{Board}
 use Rattle.board.specs.Histories.{Event, History, Runs, State, Told, Turn}
@@ -127,7 +126,7 @@ Handed (e ∷ h) tip f x = (Given e tip f × (x ≡ standing h)) ⊎ Handed h ti
 abbrev pub WalkFinds : Sheet → ℕ → Spot → Found → Type 0
 WalkFinds s rounds p f =
     (nodes : List Node) × (live : List ℕ) × (made : List ℕ) × Layers s nodes live made rounds
-    × (find_said (side_in s p) (length (points_of s)) nodes (length s.rings) live ≡ Ok f)
+    × (find_said (size_of s) (Some p) (points_of s) nodes live ≡ Ok f)
 
 -- an answer to a tip is right under a seal: it names the one cell of the seal's sheet that holds the tip, and the tests beside it are those
 -- of the walk, at most 24 for each of the seal's rounds, and 6

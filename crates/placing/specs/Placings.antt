@@ -1,7 +1,7 @@
 -- What is answered to a tip of a sealed sheet.
 use Rattle.std.specs.Prelude.{◌≡◌, ℕ, ◌+◌, ◌≤◌, cond, true, List, [], ◌∷◌, length, pos, ◌<ℤ◌, is_some, Some, Option, Ok, Err, Result}
 use Rattle.plane.specs.declared.Point.{Point}
-use Rattle.plane.specs.Kernels.{on_sheet_said}
+use Rattle.plane.specs.Kernels.{is_sheet_size, on_sheet_said}
 use Rattle.plane.specs.Points.{Spot, is_on_sheet}
 use Rattle.refusal.specs.declared.Cause.TheVariants.{OffSheet, OutOfRange, UnfitTip}
 use Rattle.refusal.specs.declared.Layer.TheVariants.{Place}
@@ -15,21 +15,21 @@ use Rattle.rules.specs.Planes.{plane_of}
 use Rattle.hierarchy.specs.Theorems.{Made}
 use Rattle.walk.specs.declared.Found.{Found}
 use Rattle.walk.specs.Telling.{cell_of}
-use Rattle.walk.specs.Walks.{find_said, side_from}
+use Rattle.walk.specs.Walks.{find_said}
 
 -- a walk that failed is told as a number outside its range
 abbrev pub or_wrong : Result Found ℕ → Result Found Refusal
 or_wrong (Ok f) = Ok f
 or_wrong (Err k) = Err (refused OutOfRange Place k)
 
--- the answer to the tip at this position, over the points of a sheet of this size and its nodes, of which some are the top ones: first a tip that is
--- not fit, then one off the sheet, and then what the walk finds
+-- the answer to the tip at this position, over the points of a sheet of this size and its nodes, of which some are the top ones: first a tip
+-- that is not fit; then, at 0, a size that no sheet has, of which nothing can be asked; then a tip off the sheet, and what the walk finds
 unfoldable pub place_said : Size → (tip : Option Spot) → (position : ℕ) → List Point → List Node → (tops : List ℕ) → Result Found Refusal
 place_said z tip position points nodes tops =
     cond (is_some tip)
-    (cond (on_sheet_said tip z.width z.height)
-    (or_wrong (find_said (side_from points tip) (length points) nodes z.loops tops))
-    (Err (refused OffSheet Place position)))
+    (cond (is_sheet_size z.width z.height)
+    (cond (on_sheet_said tip z.width z.height) (or_wrong (find_said z tip points nodes tops)) (Err (refused OffSheet Place position)))
+    (Err (refused OutOfRange Place 0)))
     (Err (refused UnfitTip Place position))
 
 -- the answers to tips from a position on, one after another

@@ -10,10 +10,11 @@ use nodes::ReadStore;
 use plane::{Kernel, Point};
 use refusal::{Cause, Layer, Refusal};
 use sheet::Size;
-use walk::{Found, find};
+use walk::{Found, find, is_sheet_size};
 
 /// Names the cell that holds the tip at this position of a list, with the count of sides tested: by a walk over the nodes, from the top
-/// ones down. `points` are those of the sheet, and no more.
+/// ones down. Refuses a tip that is not fit (25, at its position), a size that no sheet has (27, at 0), a tip off the sheet (26, at its
+/// position), and what the walk finds wrong (27, at the number's entry or node). Of `points` only inner vertices are read.
 #[tactic(auto, unfolding(crate::specs::Placings::place_said))]
 pub fn place_tip<K: Kernel, S: ReadStore>(
     size: Size,
@@ -28,11 +29,13 @@ pub fn place_tip<K: Kernel, S: ReadStore>(
     if !tip.fit() {
         return Err(Refusal::new(Cause::UnfitTip, Layer::Place, position));
     }
+    if !is_sheet_size(size) {
+        return Err(Refusal::new(Cause::OutOfRange, Layer::Place, 0));
+    }
     if !tip.on_sheet(size.width, size.height) {
         return Err(Refusal::new(Cause::OffSheet, Layer::Place, position));
     }
-    let loops = usize::from(size.loops);
-    match find(tip, points, loops, tops, store) {
+    match find(tip, size, points, tops, store) {
         Ok(found) => Ok(found),
         Err(place) => Err(Refusal::new(Cause::OutOfRange, Layer::Place, place)),
     }

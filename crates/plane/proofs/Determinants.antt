@@ -1,5 +1,7 @@
 -- The identities of the determinant, each by one computation.
-use Rattle.std.proofs.Common.{◌≡◌, ℤ, pos, ◌+ℤ◌, ◌-ℤ◌, ◌*ℤ◌, neg_ℤ, ap, ◌∙◌}
+use Rattle.std.proofs.Common.{◌≡◌, ℤ, pos, negsuc, zero, suc, ◌+ℤ◌, ◌-ℤ◌, ◌*ℤ◌, neg_ℤ, int_lt, Some, ap, sym, refl, ◌∙◌, arith}
+use Rattle.std.proofs.lemmas.Bool.Decides.{nat_tests}
+use Rattle.plane.specs.Kernels.{is_right, test_of, triangle_said}
 use Rattle.plane.specs.declared.Point.{Point}
 use Rattle.plane.specs.Identities.{Identities, blend, height, width}
 use Rattle.plane.specs.Points.{GridPoint, Spot, along, area, det, grid_point, side_of, spot_at}
@@ -47,6 +49,50 @@ from_differences a b c =
 pub whole_sided : (at a b : Point) (d : ℤ) → d ≡ (pos a.x -ℤ pos at.x) *ℤ (pos b.y -ℤ pos at.y) -ℤ (pos a.y -ℤ pos at.y) *ℤ (pos b.x -ℤ pos at.x)
     → side_of d ≡ side_of (area (grid_point a) (grid_point b) (grid_point at))
 whole_sided at a b d h = ap side_of (h ∙ from_differences (grid_point a) (grid_point b) (grid_point at))
+
+-- the third side of a triangle by the other two and the area
+pub rest_is_det : (a b c : GridPoint) (p : Spot)
+    → p.Z *ℤ ((b.x -ℤ a.x) *ℤ (c.y -ℤ a.y) -ℤ (b.y -ℤ a.y) *ℤ (c.x -ℤ a.x)) -ℤ det a b p -ℤ neg_ℤ (det a c p) ≡ det b c p
+unfolding det same?
+rest_is_det a b c p =
+    let z = pos 0 in
+    ring (variables a b c p p z z)
+    (pˢ.Z ⊗ ((bˢ.x ⊖ aˢ.x) ⊗ (cˢ.y ⊖ aˢ.y) ⊖ (bˢ.y ⊖ aˢ.y) ⊗ (cˢ.x ⊖ aˢ.x)) ⊖ detˢ aˢ bˢ pˢ ⊖ minus (detˢ aˢ cˢ pˢ)) (detˢ bˢ cˢ pˢ) tt
+
+right_of : (d : ℤ) → int_lt d (pos 0) ≡ is_right (side_of d)
+right_of (pos zero) = refl
+right_of (pos (suc n)) = grind (arith, nat_tests)
+right_of (negsuc n) = refl
+
+-- what two determinants and the area tell of the sides of a triangle
+pub triangle_sided : (a b c : Point) (p : Spot) (d e f w m : ℤ) → d ≡ det (grid_point a) (grid_point b) p → f ≡ neg_ℤ (det (grid_point a) (grid_point c) p)
+    → w ≡ (pos b.x -ℤ pos a.x) *ℤ (pos c.y -ℤ pos a.y) -ℤ (pos b.y -ℤ pos a.y) *ℤ (pos c.x -ℤ pos a.x) → m ≡ p.Z *ℤ w → e ≡ m -ℤ d -ℤ f
+    → test_of (int_lt d (pos 0)) (int_lt e (pos 0)) (int_lt f (pos 0)) ≡ triangle_said (Some p) a b c
+triangle_sided a b c p d e f w m h k q r l =
+    let A = grid_point a in
+    let B = grid_point b in
+    let C = grid_point c in
+    let ab : int_lt d (pos 0) ≡ is_right (side_of (det A B p)) = ap (λ x. int_lt x (pos 0)) h ∙ right_of (det A B p) in
+    let e-is : e ≡ det B C p = l ∙ (λ i. (r ∙ ap (λ x. p.Z *ℤ x) q) i -ℤ h i -ℤ k i) ∙ rest_is_det A B C p in
+    let bc : int_lt e (pos 0) ≡ is_right (side_of (det B C p)) = ap (λ x. int_lt x (pos 0)) e-is ∙ right_of (det B C p) in
+    let ca : int_lt f (pos 0) ≡ is_right (side_of (det C A p)) = ap (λ x. int_lt x (pos 0)) (k ∙ sym (turned C A A p p (pos 0) (pos 0))) ∙ right_of (det C A p) in
+    λ i. test_of (ab i) (bc i) (ca i)
+
+-- the same of a whole point, by how far the corners are from it
+pub whole_triangle_sided : (at a b c : Point) (d e f : ℤ)
+    → d ≡ (pos a.x -ℤ pos at.x) *ℤ (pos b.y -ℤ pos at.y) -ℤ (pos a.y -ℤ pos at.y) *ℤ (pos b.x -ℤ pos at.x)
+    → e ≡ (pos b.x -ℤ pos at.x) *ℤ (pos c.y -ℤ pos at.y) -ℤ (pos b.y -ℤ pos at.y) *ℤ (pos c.x -ℤ pos at.x)
+    → f ≡ (pos c.x -ℤ pos at.x) *ℤ (pos a.y -ℤ pos at.y) -ℤ (pos c.y -ℤ pos at.y) *ℤ (pos a.x -ℤ pos at.x)
+    → test_of (int_lt d (pos 0)) (int_lt e (pos 0)) (int_lt f (pos 0)) ≡ triangle_said (Some (spot_at (grid_point at))) a b c
+whole_triangle_sided at a b c d e f h k l =
+    let A = grid_point a in
+    let B = grid_point b in
+    let C = grid_point c in
+    let p = spot_at (grid_point at) in
+    let ab : int_lt d (pos 0) ≡ is_right (side_of (det A B p)) = ap (λ x. int_lt x (pos 0)) (h ∙ from_differences A B (grid_point at)) ∙ right_of (det A B p) in
+    let bc : int_lt e (pos 0) ≡ is_right (side_of (det B C p)) = ap (λ x. int_lt x (pos 0)) (k ∙ from_differences B C (grid_point at)) ∙ right_of (det B C p) in
+    let ca : int_lt f (pos 0) ≡ is_right (side_of (det C A p)) = ap (λ x. int_lt x (pos 0)) (l ∙ from_differences C A (grid_point at)) ∙ right_of (det C A p) in
+    λ i. test_of (ab i) (bc i) (ca i)
 
 pub identities : Identities
 identities =

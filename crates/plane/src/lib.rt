@@ -3,16 +3,18 @@
 
 ghost use Rattle.std.specs.Prelude.{◌≡◌};
 ghost use Rattle.plane.specs.Identities.{Identities};
-ghost use Rattle.plane.specs.Kernels.{within_reach};
+ghost use Rattle.plane.specs.Kernels.{is_sheet_point};
 ghost use Rattle.plane.specs.Edges.{same_edge};
 ghost use Rattle.plane.specs.Points.{same_point, side_number, vertex_of};
 
 mod determinant;
 mod kernel;
 mod rational;
+mod spot;
 mod whole;
 
 use clash::Clash;
+pub use determinant::SmallSpot;
 pub use kernel::Kernel;
 pub use rational::RationalTip;
 pub use whole::WholeTip;
@@ -27,9 +29,9 @@ pub struct Point {
 }
 
 impl Point {
-    // Whether a tip can be made at the point.
-    pub(crate) fn is_within_reach(self) -> bool
-        ensures { result ≡ within_reach self }
+    // Whether a sheet can have the point.
+    pub(crate) fn is_sheet_point(self) -> bool
+        ensures { result ≡ is_sheet_point self }
     {
         self.x <= 8191 && self.y <= 8191
     }
@@ -92,6 +94,15 @@ pub enum Side {
     On,
     /// To the left of it.
     Left,
+}
+
+/// How many sides of a triangle are tested, in order up to the first that has the tip on its right, and whether none has.
+#[derive(Clone, Copy, PartialEq, Eq, Debug)]
+pub struct Test {
+    /// How many are tested.
+    pub tests: u32,
+    /// Whether none has the tip on its right.
+    pub holds: bool,
 }
 
 impl Side {

@@ -1,11 +1,11 @@
 ghost use Rattle.std.specs.Prelude.{◌≡◌, Some};
-ghost use Rattle.plane.specs.Kernels.{rational_point};
+ghost use Rattle.plane.specs.Kernels.{Makes, MakesOnly, on_sheet_said, rational_point, side_said, triangle_said};
 ghost use Rattle.plane.specs.Printed.{rational_words};
 ghost use Rattle.std.proofs.Common.{rules};
 
 use crate::determinant::SmallSpot;
 use crate::kernel::Kernel;
-use crate::{Point, Side};
+use crate::{Point, Side, Test};
 use std::fmt;
 
 /// A tip at the point (x/z, y/z).
@@ -21,7 +21,7 @@ pub struct RationalTip {
 
 impl RationalTip {
     // The point that the tip means, where it is fit.
-    fn spot(self) -> Option<SmallSpot>
+    fn small(self) -> Option<SmallSpot>
         ensures { result ≡ rational_point self }
     {
         let RationalTip { x, y, z } = self;
@@ -51,16 +51,40 @@ impl Kernel for RationalTip {
         0 < self.z && self.z <= 1_048_575 && self.x <= 8_589_934_591 && self.y <= 8_589_934_591
     }
 
-    fn side(&self, a: Point, b: Point) -> Side {
-        self.spot().map_or(Side::On, |spot| spot.side(a, b))
+    fn side(&self, a: Point, b: Point) -> Side
+        ensures { result ≡ side_said (rational_point self.now) a b }
+    {
+        self.small().map_or(Side::On, |spot| spot.side_from(a, b))
     }
 
-    fn on_sheet(&self, width: u16, height: u16) -> bool {
-        self.spot().is_some_and(|spot| spot.on_sheet(width, height))
+    fn triangle(&self, a: Point, b: Point, c: Point) -> Test
+        ensures { result ≡ triangle_said (rational_point self.now) a b c }
+    {
+        match self.small() {
+            Some(spot) => spot.triangle_of(a, b, c),
+            None => Test {
+                tests: 3,
+                holds: true,
+            },
+        }
     }
 
-    fn make(a: Point) -> Option<RationalTip> {
-        a.is_within_reach().then_some(RationalTip {
+    fn spot(&self) -> Option<SmallSpot> {
+        self.small()
+    }
+
+    fn on_sheet(&self, width: u16, height: u16) -> bool
+        ensures { result ≡ on_sheet_said (rational_point self.now) width height }
+    {
+        self.small()
+            .is_some_and(|spot| spot.is_within(width, height))
+    }
+
+    fn make(a: Point) -> Option<RationalTip>
+        ensures made { Makes rational_point a result }
+        ensures only { MakesOnly rational_point a result }
+    {
+        a.is_sheet_point().then_some(RationalTip {
             x: u64::from(a.x),
             y: u64::from(a.y),
             z: 1,

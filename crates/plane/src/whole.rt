@@ -1,11 +1,11 @@
-ghost use Rattle.plane.specs.Kernels.{whole_point};
+ghost use Rattle.plane.specs.Kernels.{Makes, MakesOnly, on_sheet_said, whole_point, side_said, triangle_said};
 ghost use Rattle.plane.specs.Printed.{whole_words};
-ghost use Rattle.std.specs.Prelude.{Some};
+ghost use Rattle.std.specs.Prelude.{◌≡◌, Some};
 ghost use Rattle.std.proofs.Common.{rules};
 
-use crate::determinant::whole_side;
+use crate::determinant::{whole_side, whole_triangle};
 use crate::kernel::Kernel;
-use crate::{Point, Side};
+use crate::{Point, Side, Test};
 use std::fmt;
 
 /// A tip at a whole point.
@@ -35,7 +35,9 @@ impl Kernel for WholeTip {
         true
     }
 
-    fn side(&self, a: Point, b: Point) -> Side {
+    fn side(&self, a: Point, b: Point) -> Side
+        ensures { result ≡ side_said (whole_point self.now) a b }
+    {
         let at = Point {
             x: self.x,
             y: self.y,
@@ -43,11 +45,26 @@ impl Kernel for WholeTip {
         whole_side(at, a, b)
     }
 
-    fn on_sheet(&self, width: u16, height: u16) -> bool {
+    fn triangle(&self, a: Point, b: Point, c: Point) -> Test
+        ensures { result ≡ triangle_said (whole_point self.now) a b c }
+    {
+        let at = Point {
+            x: self.x,
+            y: self.y,
+        };
+        whole_triangle(at, a, b, c)
+    }
+
+    fn on_sheet(&self, width: u16, height: u16) -> bool
+        ensures { result ≡ on_sheet_said (whole_point self.now) width height }
+    {
         self.x <= width && self.y <= height
     }
 
-    fn make(a: Point) -> Option<WholeTip> {
-        a.is_within_reach().then_some(WholeTip { x: a.x, y: a.y })
+    fn make(a: Point) -> Option<WholeTip>
+        ensures made { Makes whole_point a result }
+        ensures only { MakesOnly whole_point a result }
+    {
+        a.is_sheet_point().then_some(WholeTip { x: a.x, y: a.y })
     }
 }

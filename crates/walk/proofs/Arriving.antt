@@ -6,33 +6,31 @@ use Rattle.std.proofs.lemmas.Bool.Decides.{nat_tests}
 use Rattle.plane.specs.Edges.{In}
 use Rattle.plane.specs.Points.{Spot}
 use Rattle.nodes.specs.declared.node.Node.{Node}
-use Rattle.sheet.specs.Sheets.{Sheet, points_of}
+use Rattle.sheet.specs.Sheets.{Sheet}
 use Rattle.hierarchy.specs.Layers.{child, node_at}
 use Rattle.hierarchy.specs.Theorems.{Made}
 use Rattle.hierarchy.proofs.Theorems.{children_are_earlier, children_cover, corners_are_vertices}
 use Rattle.walk.specs.declared.steps.Walked.{Walked}
-use Rattle.walk.specs.Telling.{side_in}
-use Rattle.walk.specs.Walks.{children_of, down_from, go_down, walk_on, walked}
+use Rattle.walk.specs.declared.view.Places.{Places}
+use Rattle.walk.specs.Walks.{children_of, down_from, first_child, go_down, places_of, walk_on, walked}
 use Rattle.walk.proofs.Children.{child_in, in_children}
-use Rattle.walk.proofs.Finding.{Finds, Fits, Holds, Tested, first_found}
-use Rattle.walk.proofs.Signs.{is_full}
+use Rattle.walk.proofs.Finding.{Finds, Holds, Tested, child_found, full_at, reads}
+use Rattle.walk.proofs.Vertices.{places_in, places_known}
 
 module _ (s : Sheet) (nodes : List Node) (live made : List ℕ) (rounds : ℕ) (m : Made s nodes live made rounds) (p : Spot) (z : pos 0 <ℤ p.Z) where
-  pub is_below : (x k : ℕ) → x < k → nat_lt x k ≡ true
-  is_below x k h = grind (arith, nat_tests)
-
-  pub whole : (k : ℕ) → k < length nodes → Tested s nodes p k
-  whole k inside =
+  -- where its corners are
+  pub known : (k : ℕ) → k < length nodes → places_of (reads s) nodes k ≡ Ok (places_in s (node_at nodes k))
+  known k inside =
       let c = corners_are_vertices s nodes live made rounds m k inside in
       let n = node_at nodes k in
-      is_full (side_in s p) (length (points_of s)) n.a n.b n.c (vertex n.a (c n.a (inl refl))) (vertex n.b (c n.b (inr (inl refl)))) (vertex n.c (c n.c (inr (inr (inl refl)))))
-    where
-      vertex : (v : ℕ) → v < length s.inner + 4 → nat_lt v (length (points_of s)) ≡ true
-      vertex v h = is_below v (length (points_of s)) (omega (arith, h))
+      places_known s m.legal nodes k (c n.a (inl refl)) (c n.b (inr (inl refl))) (c n.c (inr (inr (inl refl))))
+
+  pub whole : (k : ℕ) → k < length nodes → Tested s nodes p k
+  whole k inside = ap (λ r. walk_on r (λ (q : Places). Ok (full_at s nodes p q))) (known k inside)
 
   abbrev pub Arrives : (steps k tests : ℕ) → Type 0
   Arrives steps k tests =
-      (b t : ℕ) × (down_from (side_in s p) (length (points_of s)) nodes steps k tests ≡ Ok (walked (Some b) t))
+      (b t : ℕ) × (down_from (reads s) (Some p) nodes steps k tests ≡ Ok (walked (Some b) t))
       × (t ≤ tests + 24 * slice_index made k) × (b < length nodes) × ((node_at nodes b).count ≡ 0) × Holds s nodes p b
 
   lower : (k : ℕ) → k < length nodes → (x : ℕ) → In x (take (node_at nodes k).count (children_of nodes k)) → x < k
@@ -48,21 +46,20 @@ module _ (s : Sheet) (nodes : List Node) (live made : List ℕ) (rounds : ℕ) (
       let r = in_children nodes k (node_at nodes k).count x i in
       subst (λ c. slice_index made c < slice_index made k) (sym r.2) (e.2 r.0 r.1).1
 
-  children_fit : (k : ℕ) → k < length nodes → Fits s nodes p k (take (node_at nodes k).count (children_of nodes k))
-  children_fit k inside =
-      record {
-        below = λ x i. is_below x k (lower k inside x i);
-        whole = λ x i. let l = lower k inside x i in whole x (omega (arith, l, inside));
-      }
+  there : (k : ℕ) → k < length nodes → (x : ℕ) → In x (take (node_at nodes k).count (children_of nodes k)) → Tested s nodes p x
+  there k inside x i = let l = lower k inside x i in whole x (omega (arith, l, inside))
 
   -- a node with children, of which one holds the point
   module _ (steps k tests : ℕ) (h : k < suc steps) (inside : k < length nodes) (holds : Holds s nodes p k) (some : ((node_at nodes k).count == 0) ≡ false) where
-    found : Finds s nodes p k k (take (node_at nodes k).count (children_of nodes k)) tests
+    abbrev fan : List ℕ
+    fan = take (node_at nodes k).count (children_of nodes k)
+
+    found : Finds s nodes p (first_child (reads s) (Some p) nodes k fan tests) fan tests
     found =
         let n = node_at nodes k in
         let e = (children_are_earlier s nodes live made rounds m).1 k inside in
         let c = children_cover s nodes live made rounds m k inside (above n.count some) p z holds in
-        first_found s nodes p k k (take n.count (children_of nodes k)) tests (children_fit k inside) (child n c.0) (child_in nodes k n.count c.0 e.1 c.1) c.2
+        child_found s nodes p k fan tests (lower k inside) (there k inside) (child n c.0) (child_in nodes k n.count c.0 e.1 c.1) c.2
       where
         above : (c : ℕ) → (c == 0) ≡ false → 0 < c
         above c e = grind (arith, nat_tests)
@@ -82,8 +79,8 @@ module _ (s : Sheet) (nodes : List Node) (live made : List ℕ) (rounds : ℕ) (
           r.0,
           r.1,
           cond-false _ _ _ some ∙ cond-true _ _ _ (few (node_at nodes k).count e.1)
-              ∙ ap (λ f. walk_on f (λ (w : Walked). go_down (side_in s p) (length (points_of s)) nodes k (down_from (side_in s p) (length (points_of s)) nodes steps) w.node w.tests)) found.1
-              ∙ ap (λ o. go_down (side_in s p) (length (points_of s)) nodes k (down_from (side_in s p) (length (points_of s)) nodes steps) o w.tests) found.3.1
+              ∙ ap (λ f. walk_on f (λ (w : Walked). go_down (reads s) (Some p) nodes k (down_from (reads s) (Some p) nodes steps) w.node w.tests)) found.1
+              ∙ ap (λ o. go_down (reads s) (Some p) nodes k (down_from (reads s) (Some p) nodes steps) o w.tests) found.3.1
               ∙ r.2,
           omega (arith, tested, below, children, deep),
           r.4,

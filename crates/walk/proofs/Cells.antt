@@ -1,8 +1,9 @@
 -- A bottom node tells the cell that its triangle tells.
-use Rattle.std.proofs.Common.{◌≡◌, ℕ, zero, suc, ◌+◌, ◌==◌, ◌%◌, ◌/◌, Bool, true, false, cond, List, [], ◌∷◌, ◌++◌, ℤ, pos, negsuc, nat_lt, map, refl, sym, ap, ◌∙◌, arith}
+use Rattle.std.proofs.Common.{◌≡◌, ℕ, zero, suc, ◌+◌, ◌==◌, ◌%◌, ◌/◌, Bool, true, false, cond, List, [], ◌∷◌, ◌++◌, ℤ, pos, negsuc, nat_lt, Some, map, refl, sym, ap, ◌∙◌, arith}
 use Rattle.std.specs.List.{flat_map}
 use Rattle.std.proofs.lemmas.Bool.Decides.{nat_tests}
 use Rattle.plane.specs.Edges.{outside, ring_edges}
+use Rattle.plane.specs.declared.Side.{Side}
 use Rattle.plane.specs.Points.{Spot, det, int_same, place_of, side_of}
 use Rattle.sheet.specs.declared.answer.Answer.TheVariants.{OpenEdge}
 use Rattle.sheet.specs.Sheets.{Ring, Sheet, edges_of, points_of}
@@ -12,8 +13,13 @@ use Rattle.tiling.specs.Theorems as tiling
 use Rattle.bottom.specs.Bottom.{is_drawn, mark, sides_number}
 use Rattle.rules.specs.Planes.{plane_of}
 use Rattle.hierarchy.specs.Layers.{shape}
-use Rattle.walk.specs.Telling.{cell_of, side_in}
+use Rattle.walk.specs.Telling.{cell_of}
+use Rattle.walk.proofs.Vertices.{places_in}
 use Rattle.walk.specs.Walks.{edge_or_face, is_on, told_by, told_node}
+
+-- on which side of the line from one vertex of a sheet to another a point is
+abbrev side_in : Sheet → Spot → ℕ → ℕ → Side
+side_in s p u v = side_of (det (place_of (points_of s) u) (place_of (points_of s) v) p)
 
 on_by_sign : (d : ℤ) → is_on (side_of d) ≡ int_same d (pos 0)
 on_by_sign (pos zero) = refl
@@ -72,7 +78,7 @@ cells_same a b c l ab bc ca false false true = side_cell _ ca c a l (marked ab b
 cells_same a b c l ab bc ca false false false = refl
 
 pub node_tells : (s : Sheet) (p : Spot) (n : Node) → n.sides ≡ sides_number (edges_of s) (shape n)
-    → cell_of (told_node (side_in s p) n) ≡ tiling.told_by (plane_of s) n.ring (shape n) p
+    → cell_of (told_node (Some p) (places_in s n) n) ≡ tiling.told_by (plane_of s) n.ring (shape n) p
 node_tells s p n sides =
     let at = place_of (points_of s) in
     let es = edges_of s in

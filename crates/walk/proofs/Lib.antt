@@ -1,5 +1,6 @@
 pub mod Reading
 pub mod Downward
+pub mod Vertices
 pub mod Signs
 pub mod Finding
 pub mod Children

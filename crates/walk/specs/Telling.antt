@@ -1,20 +1,15 @@
 -- What a walk over the nodes of a checked sheet tells.
-use Rattle.std.specs.Prelude.{◌≡◌, ℕ, ◌+◌, ◌*◌, ◌≤◌, true, List, length, pos, ◌<ℤ◌, Ok}
-use Rattle.plane.specs.declared.Side.{Side}
-use Rattle.plane.specs.Points.{Spot, det, is_on_sheet, place_of, side_of}
+use Rattle.std.specs.Prelude.{◌≡◌, ℕ, ◌+◌, ◌*◌, ◌≤◌, true, List, length, pos, ◌<ℤ◌, Some, Ok}
+use Rattle.plane.specs.Points.{Spot, is_on_sheet}
 use Rattle.nodes.specs.declared.node.Node.{Node}
 use Rattle.sheet.specs.declared.answer.Answer.{Answer}
 use Rattle.sheet.specs.declared.answer.Answer.TheVariants.{Vertex, OpenEdge, Face}
-use Rattle.sheet.specs.Sheets.{Sheet, points_of}
+use Rattle.sheet.specs.Sheets.{Sheet, points_of, size_of}
 use Rattle.tiling.specs.Cells.{Cell, cell_holds, vertex, open_edge, face}
 use Rattle.rules.specs.Planes.{plane_of}
 use Rattle.hierarchy.specs.Theorems.{Made}
 use Rattle.walk.specs.declared.Found.{Found}
 use Rattle.walk.specs.Walks.{find_said}
-
--- on which side of the line from one vertex of a sheet to another a point is
-abbrev pub side_in : Sheet → Spot → ℕ → ℕ → Side
-side_in s p u v = side_of (det (place_of (points_of s) u) (place_of (points_of s) v) p)
 
 -- the cell that an answer names
 abbrev pub cell_of : Answer → Cell
@@ -28,7 +23,7 @@ abbrev pub WalkTells : Type 0
 WalkTells =
     (s : Sheet) (nodes : List Node) (live made : List ℕ) (rounds : ℕ) → Made s nodes live made rounds → length live ≤ 65535
     → (p : Spot) → pos 0 <ℤ p.Z → is_on_sheet (pos s.width) (pos s.height) p ≡ true
-    → (f : Found) × (find_said (side_in s p) (length (points_of s)) nodes (length s.rings) live ≡ Ok f)
+    → (f : Found) × (find_said (size_of s) (Some p) (points_of s) nodes live ≡ Ok f)
     × (cell_holds (plane_of s) (cell_of f.answer) p ≡ true)
     × ((c : Cell) → cell_holds (plane_of s) c p ≡ true → c ≡ cell_of f.answer)
     × (f.tests ≤ 24 * rounds + 3 * length live)

@@ -1,8 +1,9 @@
 //! What a bottom node tells of a tip that it holds.
-ghost use Rattle.std.specs.Prelude.{◌≡◌};
-ghost use Rattle.walk.specs.Walks.{is_bottom_node, edge_named as edge_named_of, edge_or_face as edge_or_face_of, is_on as is_on_of, node_at, side_from, told_by, told_node};
+ghost use Rattle.std.specs.Prelude.{◌≡◌, true};
+ghost use Rattle.plane.specs.Kernels.{is_sheet_point, side_said};
+ghost use Rattle.walk.specs.Walks.{is_bottom_node, edge_named as edge_named_of, edge_or_face as edge_or_face_of, is_on as is_on_of, node_at, told_by, told_node};
 
-use crate::view::{number, side};
+use crate::view::{Places, number};
 use fans::corners_at;
 use nodes::ReadStore;
 use plane::{Corners, Kernel, Point, Side};
@@ -19,11 +20,12 @@ fn edge_named(u: u16, v: u16) -> Answer
     }
 }
 
-// Whether the tip is on the line from one vertex to another.
-fn is_on<K: Kernel>(tip: &K, points: &[Point], u: u16, v: u16) -> bool
-    ensures { result ≡ is_on_of (side_from points.now (K.means tip.now) u v) }
+// Whether the tip is on the line from one point to another.
+fn is_on<K: Kernel>(tip: &K, a: Point, b: Point) -> bool
+    requires { (is_sheet_point a ≡ true) × (is_sheet_point b ≡ true) }
+    ensures { result ≡ is_on_of (side_said (K.means tip.now) a b) }
 {
-    side(tip, points, u, v) == Side::On
+    tip.side(a, b) == Side::On
 }
 
 // An edge of the sheet, or else the face of a loop.
@@ -53,16 +55,16 @@ fn told_corners(corners: Corners, sides: u16, ring: u16, ab: bool, bc: bool, ca:
     }
 }
 
-// What a bottom node tells.
-pub(crate) fn told<K: Kernel, S: ReadStore>(tip: &K, points: &[Point], store: &S, k: u16) -> Answer
-    ensures { result ≡ told_node (side_from points.now (K.means tip.now)) (node_at (S.nodes store.now) k) }
+// What a bottom node with corners at these places tells.
+pub(crate) fn told<K: Kernel, S: ReadStore>(tip: &K, store: &S, k: u16, at: Places) -> Answer
+    requires { (is_sheet_point at.a ≡ true) × ((is_sheet_point at.b ≡ true) × (is_sheet_point at.c ≡ true)) }
+    ensures { result ≡ told_node (K.means tip.now) at (node_at (S.nodes store.now) k) }
 {
-    let corners = corners_at(store, k);
-    let ab = is_on(tip, points, corners.a, corners.b);
-    let bc = is_on(tip, points, corners.b, corners.c);
-    let ca = is_on(tip, points, corners.c, corners.a);
+    let ab = is_on(tip, at.a, at.b);
+    let bc = is_on(tip, at.b, at.c);
+    let ca = is_on(tip, at.c, at.a);
     told_corners(
-        corners,
+        corners_at(store, k),
         number(store, k, 4),
         number(store, k, 3),
         ab,

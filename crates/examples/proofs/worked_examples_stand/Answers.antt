@@ -10,12 +10,12 @@ use Rattle.fans.specs.Fans.{fan_from}
 use Rattle.bottom.specs.Bottom.{bottom_of, cut_loops}
 use Rattle.rounds.specs.Choices.{closings, look_from}
 use Rattle.placing.specs.Placings.{place_said}
-use Rattle.walk.specs.Walks.{down_from, find_said, first_holding}
+use Rattle.walk.specs.Walks.{down_from, first_child, first_top, told_from}
 use Rattle.hierarchy.proofs.Examples.{layer_examples}
 use Rattle.examples.proofs.worked_examples_stand.Goals as goal
 
 pub returns : goal.returns
-unfolding contents head label labels ring several sheet wording wording_said along det cut_by cut_of is_ear around fan_from bottom_of cut_loops closings look_from place_said down_from find_said first_holding
+unfolding contents head label labels ring several sheet wording wording_said along det cut_by cut_of is_ear around fan_from bottom_of cut_loops closings look_from place_said down_from first_child first_top told_from
 returns c =
     record {
       reading = (

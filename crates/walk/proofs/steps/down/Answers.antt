@@ -1,7 +1,13 @@
-use Rattle.std.proofs.Common.{◌+◌, ◌<◌, ◌≤◌, rules, ap, Err, sym, ◌∙◌, arith}
+use Rattle.std.proofs.Common.{◌+◌, ◌<◌, ◌≤◌, rules, ap, Ok, Err, sym, ◌∙◌, arith}
 use Rattle.walk.specs.Walks.{walked}
-use Rattle.walk.proofs.Downward.{down_goes, down_lost, down_refused}
+use Rattle.walk.proofs.Downward.{down_ends, down_goes, down_lost, down_refused}
 use Rattle.walk.proofs.steps.down.Goals as goal
+
+pub returns-then-count-eq0 : goal.returns-then-count-eq0
+returns-then-count-eq0 g c =
+    ap Ok c.loop-step.invariant.1 ∙ sym (c.loop-step.invariant.0
+    ∙ down_ends _ _ _ _ c.loop-step._step c.loop-step.node _ c.number-count.result (omega (arith, c.loop-step-test.true, c.count-step-end.ensures))
+    c.number-count.ensures c.if-count-eq0.true)
 
 pub returns-in_err-at : goal.returns-in_err-at
 returns-in_err-at g c =
