@@ -4,3 +4,4 @@ pub mod Rounding
 pub mod Standing
 pub mod Known
 pub mod Lawful
+pub mod Judged

@@ -5,6 +5,7 @@ ghost use Rattle.sheet.specs.Sheets.{edges_of, loops_of, points_of};
 ghost use Rattle.bottom.specs.Cuts.{cut_live, cut_nodes};
 ghost use Rattle.rounds.specs.Rounds.{RoundLive, round_nodes};
 ghost use Rattle.board.specs.Turns.{SheetPasses, bare, check_board, checks, cut_board, cuts, round_board, round_room, rounds, seal_board, seals, is_loaded, is_sealed, list_answers, lists, load_board, loads, places};
+ghost use Rattle.board.specs.Judging.{DraftJudged};
 ghost use Rattle.board.specs.Standing.{TipTold};
 ghost use Rattle.board.specs.Law.{ListRight, RightNext};
 
@@ -84,7 +85,7 @@ impl Board {
 
     /// Finds whether the Draft's sheet keeps the eight rules, and makes it Checked; a refusal leaves the board as it is. `strokes` is
     /// scratch.
-    #[tactic(auto, using(crate::proofs::Passing::loaded_passes, crate::proofs::Passing::none_passes, crate::proofs::Passing::short_passes))]
+    #[tactic(auto, using(crate::proofs::Passing::loaded_passes, crate::proofs::Passing::none_passes, crate::proofs::Passing::short_passes, crate::proofs::Judged::loaded_judged, crate::proofs::Judged::none_judged, crate::proofs::Judged::short_drafts))]
     pub fn check(
         &mut self,
         points: &[Point],
@@ -95,6 +96,7 @@ impl Board {
         ensures said { result ≡ checks self.old points.now edges.now loops.now (length strokes.old) }
         ensures board { self.new ≡ check_board result self.old }
         ensures sheet { SheetPasses self.old points.now edges.now loops.now (length strokes.old) result }
+        ensures rules { DraftJudged self.old points.now edges.now loops.now (length strokes.old) result }
     {
         if !checking::have_room(points, edges, loops, strokes) {
             return Err(Refusal::new(Cause::TableTooShort, Layer::Check, 0));
