@@ -6,3 +6,4 @@ pub mod Known
 pub mod Serving
 pub mod Lawful
 pub mod Unaltered
+pub mod Judged

@@ -8,6 +8,7 @@ ghost use Rattle.board.specs.Turns.{SheetPasses, bare, check_board, checks, cut_
 ghost use Rattle.board.specs.Standing.{ListTold, TipTold};
 ghost use Rattle.board.specs.Law.{ListRight, RightNext, SealFew};
 ghost use Rattle.board.specs.Unaltered.{CutUnaltered, RoundUnaltered, SealUnaltered};
+ghost use Rattle.board.specs.Judging.{DraftJudged};
 
 use crate::stage::{Board, Stage};
 use bottom::{LEAST_LIVE, cut_tables, have_room};
@@ -85,7 +86,7 @@ impl Board {
 
     /// Finds whether the Draft's sheet keeps the eight rules, and makes it Checked; a refusal leaves the board as it is. `strokes` is
     /// scratch.
-    #[tactic(auto, using(crate::proofs::Passing::loaded_passes, crate::proofs::Passing::none_passes, crate::proofs::Passing::short_passes))]
+    #[tactic(auto, using(crate::proofs::Passing::loaded_passes, crate::proofs::Passing::none_passes, crate::proofs::Passing::short_passes, crate::proofs::Judged::loaded_judged, crate::proofs::Judged::none_judged, crate::proofs::Judged::short_drafts))]
     pub fn check(
         &mut self,
         points: &[Point],
@@ -96,6 +97,7 @@ impl Board {
         ensures said { result ≡ checks self.old points.now edges.now loops.now (length strokes.old) }
         ensures board { self.new ≡ check_board result self.old }
         ensures sheet { SheetPasses self.old points.now edges.now loops.now (length strokes.old) result }
+        ensures rules { DraftJudged self.old points.now edges.now loops.now (length strokes.old) result }
     {
         if !checking::have_room(points, edges, loops, strokes) {
             return Err(Refusal::new(Cause::TableTooShort, Layer::Check, 0));

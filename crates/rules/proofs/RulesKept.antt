@@ -9,7 +9,7 @@ use Rattle.plane.specs.Points.{GridPoint}
 use Rattle.refusal.specs.declared.Cause.TheVariants.{LoopSum, SamePoint, VertexTwice, EdgeTwice, NoReverse, VertexUnused, EdgesTouch, LoopTurned}
 use Rattle.sheet.specs.Sheets.{Ring, Sheet, edges_of}
 use Rattle.rules.specs.Rules.{drawn_edges, names_twice, signed_area, touch, triangles_in}
-use Rattle.rules.specs.Sound.{Breaks, CornersDiffer, EdgesApart, Joins, ListedOnce, LoopsAddUp, LoopsTurnLeft, PointsDiffer, ReversesListed, Touching, TurnsLeft, VerticesUsed, drawn_at, vertex_at}
+use Rattle.rules.specs.Sound.{Breaks, CornersDiffer, EdgesApart, Joins, ListedOnce, LoopsAddUp, LoopsTurnLeft, OneSegment, PointsDiffer, ReversesListed, Touching, TurnsLeft, VerticesUsed, drawn_at, vertex_at}
 use Rattle.rules.proofs.Drawn.{has_drawn, two_free}
 use Rattle.rules.proofs.Elements.{once_from_free}
 use Rattle.rules.proofs.Halves.{Single, drawn_in, drawn_single, ring_once}
@@ -159,7 +159,7 @@ module _ (s : Sheet) where
       let i = b.1.0 in
       let listed : (n : ℕ) → n < length l → In (drawn_at s n) (edges_of s) = λ n h. drawn_in [] (edges_of s) (drawn_at s n) (at_in l n (edge 0 0) h) in
       let apart = single_apart l (drawn_single [] (edges_of s) once) i k (edge 0 0) b.1.1 b.0 in
-      let other : ¬ (Joins (drawn_at s i) (drawn_at s k).from (drawn_at s k).to) = λ q. elim q [ inl r ↦ apart.0 r | inr r ↦ apart.1 r ] in
+      let other : ¬ (OneSegment (drawn_at s i) (drawn_at s k)) = λ q. elim q [ inl r ↦ apart.0 r | inr r ↦ apart.1 r ] in
       rule (drawn_at s i) (drawn_at s k) (listed i (omega (arith, b.0, b.1.1))) (listed k b.0) other b.1.2
 
   -- ---- 20

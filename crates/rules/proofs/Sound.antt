@@ -104,7 +104,7 @@ module _ (s : Sheet) where
   step c next below after =
       elim (broken_by s c) as (λ o. IsFirst (Breaks s c) o → Told (or_else (told c o) next)) [
         | None ↦ λ none. after (one_more c below (kept_by c none))
-        | Some k ↦ λ first. record { layer = refl; kept_before = below; broken = first.here; whole_before = first.none_before }
+        | Some k ↦ λ first. record { layer = refl; rules_before = below; broken = first.here; places_before = first.none_before }
       ] (first_by c)
 
   -- none of the causes below 13 stands for a rule, and none from 21 on
@@ -182,7 +182,7 @@ module _ (s : Sheet) where
 
   not_sooner : (e f : Refusal) → FirstBroken s e → FirstBroken s f → number e.cause < number f.cause → ⊥
   unfolding Before
-  not_sooner e f x y l = unbroken_by e.cause x.kept_before (y.kept_before e.cause l) e.place x.broken
+  not_sooner e f x y l = unbroken_by e.cause x.rules_before (y.rules_before e.cause l) e.place x.broken
 
   one_first : (e f : Refusal) → FirstBroken s e → FirstBroken s f → e ≡ f
   one_first e f x y =
@@ -194,8 +194,8 @@ module _ (s : Sheet) where
       let cause : e.cause ≡ f.cause = one_cause e.cause f.cause number_is in
       let place : e.place ≡ f.place = elim (cases_order e.place f.place) [
         | inl q ↦ q
-        | inr (inl l) ↦ absurd (y.whole_before e.place l (subst (λ c. Breaks s c e.place) cause x.broken))
-        | inr (inr l) ↦ absurd (x.whole_before f.place l (subst (λ c. Breaks s c f.place) (sym cause) y.broken))
+        | inr (inl l) ↦ absurd (y.places_before e.place l (subst (λ c. Breaks s c e.place) cause x.broken))
+        | inr (inr l) ↦ absurd (x.places_before f.place l (subst (λ c. Breaks s c f.place) (sym cause) y.broken))
       ] in
       let layer : e.layer ≡ f.layer = x.layer ∙ sym y.layer in
       λ i. record { cause = cause i; layer = layer i; place = place i }

@@ -39,6 +39,10 @@ IsCorner s v = (r : Ring) × In r s.rings × In v r.corners
 abbrev pub TurnsLeft : Sheet → List ℕ → Type 0
 TurnsLeft s cs = pos 0 <ℤ signed_area (vertex_at s) cs
 
+-- two edges are one edge of the sheet: the same, or each the other's reverse
+abbrev pub OneSegment : Edge → Edge → Type 0
+OneSegment e f = (e ≡ f) ⊎ (e ≡ back f)
+
 -- ---- when two edges touch
 
 -- the edge goes from u to v, or from v to u
@@ -93,9 +97,9 @@ ReversesListed s = (e : Edge) → In e (edges_of s) → In (back e) (edges_of s)
 abbrev pub VerticesUsed : Sheet → Type 0
 VerticesUsed s = (v : ℕ) → 4 ≤ v → v < vertices s → IsCorner s v
 
--- 19: two edges without a common vertex share no point, and of two with one, neither's other end lies on the other edge
+-- 19: two edges of the sheet without a common vertex share no point, and of two with one, neither's other end lies on the other edge
 abbrev pub EdgesApart : Sheet → Type 0
-EdgesApart s = (e f : Edge) → In e (edges_of s) → In f (edges_of s) → ¬ (Joins e f.from f.to) → ¬ (Touching (vertex_at s) e f)
+EdgesApart s = (e f : Edge) → In e (edges_of s) → In f (edges_of s) → ¬ (OneSegment e f) → ¬ (Touching (vertex_at s) e f)
 
 -- 20: every loop's signed area is above 0
 abbrev pub LoopsTurnLeft : Sheet → Type 0
@@ -149,9 +153,9 @@ Breaks s _ k = ⊥
 -- a refusal is told of the least rule that is broken, at the least place where it is
 pub record FirstBroken (s : Sheet) (e : Refusal) : Type 0 where
   pub layer : e.layer ≡ Check
-  pub kept_before : (c : Cause) → number c < number e.cause → Rule s c
+  pub rules_before : (c : Cause) → number c < number e.cause → Rule s c
   pub broken : Breaks s e.cause e.place
-  pub whole_before : (k : ℕ) → k < e.place → ¬ (Breaks s e.cause k)
+  pub places_before : (k : ℕ) → k < e.place → ¬ (Breaks s e.cause k)
 
 -- no rule is told exactly where the sheet keeps all eight, and one at a place exactly where it is the first; and where those before it are
 -- kept, a rule is kept exactly where no place breaks it
