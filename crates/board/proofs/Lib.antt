@@ -5,3 +5,5 @@ pub mod Standing
 pub mod Known
 pub mod Lawful
 pub mod Unaltered
+pub mod Loads
+pub mod Ranges
