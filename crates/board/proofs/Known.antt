@@ -71,13 +71,13 @@ Known h s = Knows (last_sheet h) (rounds_since h) (standing h) s.board.stage s.b
 -- ---- the stage that a granted turn is of
 
 module _ (last : Option Sheet) (count : ℕ) (stands : Option Seal) (b : Board) (ps : List Point) (es : List Edge) (ls : List Loop) (live : List ℕ) (nodes : List Node) where
-  loaded_draft : (g : Stage) → is_draft g ≡ true → is_loaded b ≡ true → Knows last count stands g b ps es ls live nodes → Held last b.size ps es ls
+  pub loaded_draft : (g : Stage) → is_draft g ≡ true → is_loaded b ≡ true → Knows last count stands g b ps es ls live nodes → Held last b.size ps es ls
   loaded_draft Draft h l k = k l
   loaded_draft Checked h l k = cc
   loaded_draft Layered h l k = cc
   loaded_draft Sealed h l k = cc
 
-  is_right : (g : Stage) → is_checked g ≡ true → Knows last count stands g b ps es ls live nodes → Right last b.size ps es ls
+  pub is_right : (g : Stage) → is_checked g ≡ true → Knows last count stands g b ps es ls live nodes → Right last b.size ps es ls
   is_right Draft h k = cc
   is_right Checked h k = k
   is_right Layered h k = cc
@@ -95,7 +95,7 @@ module _ (last : Option Sheet) (count : ℕ) (stands : Option Seal) (b : Board) 
   is_sealing Layered h k = cc
   is_sealing Sealed h k = k
 
-first_of_two : (p q : Bool) → cond p q false ≡ true → p ≡ true
+pub first_of_two : (p q : Bool) → cond p q false ≡ true → p ≡ true
 first_of_two true q h = refl
 first_of_two false q h = cc
 

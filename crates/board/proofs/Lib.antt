@@ -7,3 +7,5 @@ pub mod Serving
 pub mod Lawful
 pub mod Unaltered
 pub mod Judged
+pub mod Loads
+pub mod Ranges

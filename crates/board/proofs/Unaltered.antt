@@ -1,5 +1,5 @@
 -- What the turns tell of a sheet that nobody altered: no number outside its range.
-use Rattle.std.proofs.Common.{◌≡◌, ℕ, zero, suc, ◌+◌, ◌*◌, ◌<◌, ◌≤◌, Bool, true, false, cond, List, length, take, None, Ok, Err, Result, nat_le, refl, sym, ap, ◌∙◌, subst, arith}
+use Rattle.std.proofs.Common.{◌≡◌, ℕ, zero, suc, ◌≤◌, Bool, true, false, cond, List, length, None, Ok, Err, Result, nat_le, sym, ap, ◌∙◌, subst, arith}
 use Rattle.std.proofs.lemmas.Bool.{cond-true, false≢true, le-leb, leb-true}
 use Rattle.plane.specs.declared.Edge.{Edge}
 use Rattle.plane.specs.declared.Point.{Point}
@@ -23,7 +23,6 @@ use Rattle.webs.specs.Theorems.{CutIsUnhindered, Never, RoundIsUnhindered, Unhin
 use Rattle.webs.proofs.Causes.{either, granted_so, other_cause}
 use Rattle.webs.proofs.Theorems.{cut_is_unhindered, layers_are_counted, round_is_unhindered, seal_tells_left}
 use Rattle.board.specs.declared.stage.Board.{Board}
-use Rattle.board.specs.Standing.{Stands}
 use Rattle.board.specs.Turns.{cuts, is_checked, is_layered, live_of, points_in, round_room, rounds, seals}
 use Rattle.board.specs.Unaltered.{CutUnaltered, RoundUnaltered, SealUnaltered}
 use Rattle.board.proofs.Standing.{Built, all_counted, at_checked, at_layered, inner_same, points_same, sound}
@@ -43,7 +42,7 @@ answered_so d (Err e) h = λ f is. h f (ap Err (same is))
     same : {f : Refusal} → ◌≡◌ {A = Result (Unit {0}) Refusal} (Err e) (Err f) → e ≡ f
     same is = cc
 
-long_live : (points live : ℕ) → round_room points live ≡ true → 2050 ≤ live
+pub long_live : (points live : ℕ) → round_room points live ≡ true → 2050 ≤ live
 long_live points live h = go (nat_le 1028 points) h
   where
     go : (b : Bool) → cond b (nat_le 2050 live) false ≡ true → 2050 ≤ live
@@ -100,7 +99,7 @@ round_held b ps live nodes room enough held =
       not_full = λ room. at StoreFull (λ e. omega arith) (λ e. omega arith) (λ l a. (held a (long l)).not_full room);
     }
 
-left_in_range : (n : ℕ) → Never OutOfRange (left_told n)
+pub left_in_range : (n : ℕ) → Never OutOfRange (left_told n)
 left_in_range zero = granted_so {X = Unit {0}} OutOfRange tt
 left_in_range (suc n) = other_cause VerticesLeft Build (suc n) OutOfRange (λ e. omega arith)
 

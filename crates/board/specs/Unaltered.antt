@@ -1,7 +1,9 @@
 -- What the turns tell where nobody altered a table or the store: that a number is outside its range (27) is never told.
-use Rattle.std.specs.Prelude.{◌≡◌, ℕ, ◌≤◌, true, List, [], length, Err, Result}
+use Rattle.std.specs.Prelude.{◌≡◌, ℕ, ◌≤◌, true, List, length, Result}
+use Rattle.std.specs.List.{All}
 use Rattle.plane.specs.declared.Point.{Point}
 use Rattle.plane.specs.declared.Edge.{Edge}
+use Rattle.plane.specs.Edges.{In}
 use Rattle.refusal.specs.declared.Cause.TheVariants.{OutOfRange}
 use Rattle.refusal.specs.declared.Refusal.{Refusal}
 use Rattle.nodes.specs.declared.node.Node.{Node}
@@ -11,9 +13,12 @@ use Rattle.sheet.specs.Sheets.{Sheet}
 use Rattle.bottom.specs.Cuts.{bottom_count}
 use Rattle.rounds.specs.Rounds.{most_nodes}
 use Rattle.webs.specs.Theorems.{Never, Unhindered, left_told}
+use Rattle.walk.specs.declared.Found.{Found}
 use Rattle.board.specs.declared.stage.Board.{Board}
+use Rattle.board.specs.Histories.{Event, History, Runs, State, Told}
+use Rattle.board.specs.Histories.Told.{answered, granted, listed, refused}
 use Rattle.board.specs.Standing.{Stands}
-use Rattle.board.specs.Turns.{is_layered, live_of}
+use Rattle.board.specs.Turns.{bare, is_layered, live_of}
 
 -- ---- a turn of a sheet that stands on the board, at whatever stage, and over tables of any lengths
 
@@ -35,3 +40,20 @@ pub record SealTold (s : Sheet) (b : Board) (live : List ℕ) (nodes : List Node
 -- the theorem: so a seal tells
 unfoldable pub SealUnaltered : Board → (live : List ℕ) → List Node → Result (Unit {0}) Refusal → Type 0
 SealUnaltered b live nodes said = (s : Sheet) (ps : List Point) (es : List Edge) (ls : List Loop) → Stands s b ps es ls live nodes → SealTold s b live nodes said
+
+-- ---- whole histories
+
+-- what is told is no number outside its range, nor is that an entry of a list
+abbrev pub ToldInRange : Told → Type 0
+ToldInRange granted = Unit {0}
+ToldInRange (answered f) = Unit {0}
+ToldInRange (listed entries) = All (λ (x : Result Found Refusal). Never OutOfRange x) entries
+ToldInRange (refused e) = e.cause ≡ OutOfRange → ⊥
+
+-- the theorem: in a history that begins with an empty Draft, over tables and a store of any size and content, no turn tells one; for only turns
+-- change tables and store there
+unfoldable pub AllInRange : History → Type 0
+AllInRange h = (e : Event) → In e h → ToldInRange e.told
+
+abbrev pub HistoriesAreInRange : Type 0
+HistoriesAreInRange = (begin s : State) (h : History) → begin.board ≡ bare → Runs begin h s → AllInRange h

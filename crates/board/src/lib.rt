@@ -2,6 +2,7 @@
 #![tactic(auto)]
 
 ghost use Rattle.board.specs.Law.{LawOfHistories};
+ghost use Rattle.board.specs.Unaltered.{HistoriesAreInRange};
 
 mod stage;
 mod turns;
@@ -16,4 +17,10 @@ pub use typed::{Checked, Draft, Layered, Refused, Sealed};
 #[tactic(auto, using(crate::proofs::Lawful::law))]
 pub fn law_stands()
     ensures { LawOfHistories }
+{}
+
+/// No turn of such a history tells a number outside its range, nor is that an entry of a list: for only turns change the tables there.
+#[tactic(auto, using(crate::proofs::Ranges::in_range))]
+pub fn histories_are_in_range_stands()
+    ensures { HistoriesAreInRange }
 {}

@@ -4,6 +4,7 @@
 ghost use Rattle.std.specs.Prelude.{◌≡◌, ◌≤◌, drop, length};
 ghost use Rattle.board.specs.Histories.{Runs, Step};
 ghost use Rattle.board.specs.Law.{Law};
+ghost use Rattle.board.specs.Unaltered.{AllInRange};
 ghost use Rattle.runs.specs.Plays.{all_filled, filled as filled_of, history, set_up, state_of, told_of, turn_of};
 
 mod steps;
@@ -76,7 +77,7 @@ fn go_on<K: Kernel, S: WriteStore>(
 /// Makes all turns one after another on a board that begins with an empty Draft, over the tables of a desk and a store, whatever these hold;
 /// as many as there are entries for their outcomes. Each granted list fills the table of answers behind the list before it; entries of both
 /// tables that no turn fills stay.
-#[tactic(auto, using(board::proofs::Lawful::law))]
+#[tactic(auto, using(board::proofs::Lawful::law, board::proofs::Ranges::in_range))]
 pub fn play<K: Kernel, S: WriteStore>(
     desk: &mut Desk,
     store: &mut S,
@@ -86,6 +87,7 @@ pub fn play<K: Kernel, S: WriteStore>(
 )
     ensures run { Runs (set_up desk.old (S.ReadStore.nodes store.old) (S.WriteStore.room store.old)) (history K.means turns.now outcomes.new answers.new) (state_of desk.new (S.ReadStore.nodes store.new) (S.WriteStore.room store.new)) }
     ensures law { Law (history K.means turns.now outcomes.new answers.new) }
+    ensures in_range { AllInRange (history K.means turns.now outcomes.new answers.new) }
     ensures answers { drop (all_filled turns.now outcomes.new) answers.new ≡ drop (all_filled turns.now outcomes.new) answers.old }
     ensures outcomes { drop (length turns.now) outcomes.new ≡ drop (length turns.now) outcomes.old }
 {
