@@ -1,4 +1,5 @@
 pub mod Reading
+pub mod Places
 pub mod Downward
 pub mod Vertices
 pub mod Signs

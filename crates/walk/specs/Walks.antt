@@ -2,6 +2,7 @@
 -- side of the line from one point of the sheet to another it is.
 use Rattle.std.specs.Prelude.{ℕ, zero, suc, ◌+◌, ◌%◌, ◌/◌, ◌==◌, Bool, true, false, cond, ◌&&◌, List, [], ◌∷◌, length, map, take, nat_le, nat_lt, slice_index_or, Some, None, Option, Ok, Err, Result}
 use Rattle.std.specs.List.{range_with_len}
+use Rattle.std.specs.Option.{ok_or}
 use Rattle.plane.specs.declared.Point.{Point}
 use Rattle.plane.specs.declared.Side.{Side}
 use Rattle.plane.specs.declared.Side.TheVariants.{Right, On, Left}
@@ -46,12 +47,15 @@ walk_on (Err k) rest = Err k
 
 -- ---- where the corners of a node are
 
--- where a vertex of a node is: one of the sheet's corners, or what the table says of an inner one. A node that names no vertex is told, and so
--- is an inner vertex that is not strictly inside the sheet.
+-- where a vertex of the sheet is: a corner of the sheet is known, and an inner vertex is where the table says, if that is strictly inside
+abbrev pub vertex_known : Size → List Point → ℕ → Option Point
+vertex_known z points v =
+    cond (nat_lt v 4) (Some (vertex_of (corners z.width z.height) v))
+    (cond (nat_lt v (z.inner + 4) && is_inside z (vertex_of points v)) (Some (vertex_of points v)) None)
+
+-- the same for a node that names it: an inner vertex that is elsewhere is told, and the node where it is no vertex
 abbrev pub vertex_read : Size → List Point → (node v : ℕ) → Result Point ℕ
-vertex_read z points node v =
-    cond (nat_lt v 4) (Ok (vertex_of (corners z.width z.height) v))
-    (cond (nat_lt v (z.inner + 4)) (cond (is_inside z (vertex_of points v)) (Ok (vertex_of points v)) (Err v)) (Err node))
+vertex_read z points node v = ok_or (vertex_known z points v) (cond (nat_lt v (z.inner + 4)) v node)
 
 abbrev pub places : (a b c : Point) → Places
 places a b c = record { a = a; b = b; c = c }

@@ -13,10 +13,10 @@ mod view;
 use checking::front;
 use nodes::ReadStore;
 use plane::{Kernel, Point};
-use sheet::{Answer, Size};
+use sheet::{Answer, Size, corners};
 use steps::{Walked, down, first_top};
 use telling::{is_bottom, told};
-use view::corner_places;
+use view::{places_at, wrong_corner};
 
 /// The answer of a walk, and how many sides it tested.
 #[derive(Clone, Copy, PartialEq, Eq, Debug)]
@@ -47,7 +47,10 @@ fn tell<K: Kernel, S: ReadStore>(
     if !is_bottom(usize::from(size.loops), store, k) {
         return Err(usize::from(k));
     }
-    let at = corner_places(size, points, store, k)?;
+    let corners = corners(size.width, size.height);
+    let Some(at) = places_at(size, &corners, points, store, k) else {
+        return Err(wrong_corner(size, &corners, points, store, k));
+    };
     Ok(Found {
         answer: told(tip, store, k, at),
         tests: bottom.tests,
@@ -68,11 +71,12 @@ fn walk<K: Kernel, S: ReadStore>(
     requires points { length points.now ≤ size.inner + 4 }
     ensures { result ≡ walk_from (vertex_read size points.now) (K.means tip.now) (S.nodes store.now) tops.now }
 {
-    let top = first_top(tip, size, points, store, tops)?;
+    let corners = corners(size.width, size.height);
+    let top = first_top(tip, size, &corners, points, store, tops)?;
     let Some(k) = top.node else {
         return Err(0);
     };
-    down(tip, size, points, store, k, top.tests)
+    down(tip, size, &corners, points, store, k, top.tests)
 }
 
 // The walk of any kernel, and what it tells.
@@ -99,11 +103,28 @@ pub fn is_sheet_size(size: Size) -> bool
     (2 <= size.width && size.width <= 8191) && (2 <= size.height && size.height <= 8191)
 }
 
+// The same, of the point in small numbers where the kernel hands it out: so the tip is not asked at each side whether it is fit.
+fn find_spot<K: Kernel, S: ReadStore>(
+    tip: &K,
+    size: Size,
+    points: &[Point],
+    tops: &[u16],
+    store: &S,
+) -> Result<Found, usize>
+    requires size { is_sheet_size_of size.width size.height ≡ true }
+    requires points { length points.now ≤ size.inner + 4 }
+    ensures { result ≡ told_from (vertex_read size points.now) (K.means tip.now) (S.nodes store.now) size.loops tops.now }
+{
+    match tip.spot() {
+        Some(spot) => find_by(&spot, size, points, tops, store),
+        None => find_by(tip, size, points, tops, store),
+    }
+}
+
 /// Walks from the top nodes down to a bottom node that holds the tip, and answers what it tells; or the place of a number outside its range, of
 /// a top node that is none or does not ascend, of a child that is not below its node, or of a node under which nothing holds the tip. A size
 /// that no sheet has is told at 0. Of `points` only the inner vertices are read, each as a node is tested that has it as a corner.
-// A point in small numbers, which the kernel may hand out, is walked with as it is: so the tip is not asked at each side whether it is fit.
-#[tactic(auto, using(crate::proofs::Reading::read_front))]
+#[tactic(auto, using(crate::proofs::Reading::told_front))]
 pub fn find<K: Kernel, S: ReadStore>(
     tip: &K,
     size: Size,
@@ -117,10 +138,7 @@ pub fn find<K: Kernel, S: ReadStore>(
         return Err(0);
     }
     let points = front(points, usize::from(size.inner) + 4);
-    match tip.spot() {
-        Some(spot) => find_by(&spot, size, points, tops, store),
-        None => find_by(tip, size, points, tops, store),
-    }
+    find_spot(tip, size, points, tops, store)
 }
 
 /// Of nodes that cuts and rounds made of a checked sheet, the walk from the live ones tells of every point of the sheet the one cell that

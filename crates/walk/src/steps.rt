@@ -1,9 +1,10 @@
 //! The steps of a walk: which of some nodes holds the tip, and down from there.
 ghost use Rattle.std.specs.Prelude.{◌≡◌, ◌+◌, ◌*◌, ◌<◌, ◌≤◌, ◌-◌, true, IfOk, IfSome, length, take};
 ghost use Rattle.plane.specs.Kernels.{is_sheet_size};
+ghost use Rattle.sheet.specs.Sheets.{corners as corners_of};
 ghost use Rattle.walk.specs.Walks.{children_of, down_from, first_child as first_child_of, first_top as first_top_of, vertex_read};
 
-use crate::view::{number, test_node};
+use crate::view::{number, test_node, wrong_corner};
 use nodes::ReadStore;
 use plane::{Kernel, Point};
 use sheet::Size;
@@ -22,11 +23,13 @@ pub(crate) struct Walked {
 pub(crate) fn first_top<K: Kernel, S: ReadStore>(
     tip: &K,
     size: Size,
+    corners: &[Point; 4],
     points: &[Point],
     store: &S,
     tops: &[u16],
 ) -> Result<Walked, usize>
     requires size { is_sheet_size size.width size.height ≡ true }
+    requires corners { corners.now ≡ corners_of size.width size.height }
     requires points { length points.now ≤ size.inner + 4 }
     ensures tests { IfOk result (λ w. w.tests ≤ 196608) }
     ensures said { result ≡ first_top_of (vertex_read size points.now) (K.means tip.now) (S.nodes store.now) 0 0 tops.now 0 }
@@ -37,7 +40,9 @@ pub(crate) fn first_top<K: Kernel, S: ReadStore>(
         if u32::from(*k) < least || usize::from(*k) >= store.count() {
             return Err(i);
         }
-        let tested = test_node(tip, size, points, store, *k)?;
+        let Some(tested) = test_node(tip, size, corners, points, store, *k) else {
+            return Err(wrong_corner(size, corners, points, store, *k));
+        };
         tests += tested.tests;
         if tested.holds {
             return Ok(Walked {
@@ -56,6 +61,7 @@ pub(crate) fn first_top<K: Kernel, S: ReadStore>(
 fn first_below<K: Kernel, S: ReadStore>(
     tip: &K,
     size: Size,
+    corners: &[Point; 4],
     points: &[Point],
     store: &S,
     node: u16,
@@ -63,6 +69,7 @@ fn first_below<K: Kernel, S: ReadStore>(
     tests: u32,
 ) -> Result<Walked, usize>
     requires size { is_sheet_size size.width size.height ≡ true }
+    requires corners { corners.now ≡ corners_of size.width size.height }
     requires points { length points.now ≤ size.inner + 4 }
     requires tests { tests + 3 * length numbers.now ≤ 4294967295 }
     ensures tests { IfOk result (λ w. w.tests ≤ tests + 3 * length numbers.now) }
@@ -74,7 +81,9 @@ fn first_below<K: Kernel, S: ReadStore>(
         if *k >= node {
             return Err(usize::from(node));
         }
-        let tested = test_node(tip, size, points, store, *k)?;
+        let Some(tested) = test_node(tip, size, corners, points, store, *k) else {
+            return Err(wrong_corner(size, corners, points, store, *k));
+        };
         tests += tested.tests;
         if tested.holds {
             return Ok(Walked {
@@ -108,6 +117,7 @@ fn children_at<S: ReadStore>(store: &S, k: u16) -> [u16; 8]
 fn first_child<K: Kernel, S: ReadStore>(
     tip: &K,
     size: Size,
+    corners: &[Point; 4],
     points: &[Point],
     store: &S,
     node: u16,
@@ -115,6 +125,7 @@ fn first_child<K: Kernel, S: ReadStore>(
     tests: u32,
 ) -> Result<Walked, usize>
     requires size { is_sheet_size size.width size.height ≡ true }
+    requires corners { corners.now ≡ corners_of size.width size.height }
     requires points { length points.now ≤ size.inner + 4 }
     requires count { count ≤ 8 }
     requires tests { tests + 24 ≤ 4294967295 }
@@ -126,6 +137,7 @@ fn first_child<K: Kernel, S: ReadStore>(
     first_below(
         tip,
         size,
+        corners,
         points,
         store,
         node,
@@ -140,12 +152,14 @@ fn first_child<K: Kernel, S: ReadStore>(
 pub(crate) fn down<K: Kernel, S: ReadStore>(
     tip: &K,
     size: Size,
+    corners: &[Point; 4],
     points: &[Point],
     store: &S,
     k: u16,
     tests: u32,
 ) -> Result<Walked, usize>
     requires size { is_sheet_size size.width size.height ≡ true }
+    requires corners { corners.now ≡ corners_of size.width size.height }
     requires points { length points.now ≤ size.inner + 4 }
     requires tests { tests + 24 * k ≤ 4294967295 - 24 }
     ensures { result ≡ down_from (vertex_read size points.now) (K.means tip.now) (S.nodes store.now) (length (S.nodes store.now)) k tests }
@@ -163,7 +177,7 @@ pub(crate) fn down<K: Kernel, S: ReadStore>(
         if count > 8 {
             return Err(usize::from(node));
         }
-        at = first_child(tip, size, points, store, node, count, at.tests)?;
+        at = first_child(tip, size, corners, points, store, node, count, at.tests)?;
         let Some(child) = at.node else {
             return Err(usize::from(node));
         };
