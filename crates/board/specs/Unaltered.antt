@@ -50,10 +50,11 @@ ToldInRange (answered f) = Unit {0}
 ToldInRange (listed entries) = All (λ (x : Result Found Refusal). Never OutOfRange x) entries
 ToldInRange (refused e) = e.cause ≡ OutOfRange → ⊥
 
--- the theorem: in a history that begins with an empty Draft, over tables and a store of any size and content, no turn tells one; for only turns
--- change tables and store there
+-- no turn of a history tells one
 unfoldable pub AllInRange : History → Type 0
 AllInRange h = (e : Event) → In e h → ToldInRange e.told
 
+-- the theorem: so it is of every history that begins with an empty Draft, over tables and a store of any size and content; for only turns change
+-- tables and store there
 abbrev pub HistoriesAreInRange : Type 0
 HistoriesAreInRange = (begin s : State) (h : History) → begin.board ≡ bare → Runs begin h s → AllInRange h

@@ -201,7 +201,7 @@ module _ (s : Sheet) (nodes : List Node) (live made : List ℕ) (r : ℕ) (m : M
       let c = length nodes + found.0.fresh in
       let fits : nat_lt table (length now.live) ≡ false = le-ltb table (length now.live) (omega arith) in
       let told = λ (d : Cause). refusal_never d (found.0.left == 0) (nat_lt (18 * found.0.chosen) found.0.left) (nat_lt room c) (nat_lt table (length now.live))
-          (refused NoneLeft Build 0) (refused Stuck Build (rounds + 1)) (refused StoreFull Build c) (refused OutOfRange Build table) now in
+      (refused NoneLeft Build 0) (refused Stuck Build (rounds + 1)) (refused StoreFull Build c) (refused OutOfRange Build table) now in
       record {
         in_range = subst (Never OutOfRange) (sym (round_is rounds room table))
             (told OutOfRange (other_cause NoneLeft Build 0 OutOfRange (λ e. omega arith)) (other_cause Stuck Build (rounds + 1) OutOfRange (λ e. omega arith))

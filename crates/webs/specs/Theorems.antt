@@ -35,7 +35,7 @@ NoFanIsBroken =
     (s : Sheet) (nodes : List Node) (live made : List ℕ) (rounds : ℕ) → Made s nodes live made rounds
     → (f : Found) × (look_all (place_of (points_of s)) nodes live (length s.inner) ≡ Ok f)
 
--- the live nodes are two more than twice the vertices left, and beside the nodes that there are the sheet may have six more for each of these
+-- the live nodes are two more than twice the vertices left; and all nodes, with six more for each of these, are no more than a sheet can have
 abbrev pub LayersAreCounted : Type 0
 LayersAreCounted =
     (s : Sheet) (nodes : List Node) (live made : List ℕ) (rounds : ℕ) → Made s nodes live made rounds
