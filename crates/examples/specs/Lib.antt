@@ -1,3 +1,4 @@
 pub mod Spring
+pub mod Turns
 pub mod Worked
 pub mod SpringCells

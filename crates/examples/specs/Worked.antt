@@ -15,6 +15,7 @@ use Rattle.walk.specs.declared.Found.{Found}
 use Rattle.walk.specs.Walks.{found}
 use Rattle.placing.specs.Placings.{place_said}
 use Rattle.examples.specs.Spring.{Examples, spring}
+use Rattle.examples.specs.Turns.{TurnExamples}
 
 -- the sheet of the file keeps the rules; with its first loop the other way round, an edge is listed twice, the later at position 6
 pub record Checked : Type 0 where
@@ -45,3 +46,4 @@ pub record WorkedExamples : Type 0 where
   pub check : Checked
   pub layers : LayerExamples
   pub tips : Tips
+  pub turns : TurnExamples

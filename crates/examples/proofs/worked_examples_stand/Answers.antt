@@ -12,6 +12,7 @@ use Rattle.rounds.specs.Choices.{closings, look_from}
 use Rattle.placing.specs.Placings.{place_said}
 use Rattle.walk.specs.Walks.{down_from, first_child, first_top, told_from}
 use Rattle.hierarchy.proofs.Examples.{layer_examples}
+use Rattle.examples.proofs.Turns.{turn_examples}
 use Rattle.examples.proofs.worked_examples_stand.Goals as goal
 
 pub returns : goal.returns
@@ -26,4 +27,5 @@ returns c =
       check = record { one = refl; passes = refl; turned = refl };
       layers = layer_examples;
       tips = record { face = refl; vertex = refl; seam = refl; off = refl; third_part = (_, refl) };
+      turns = turn_examples;
     }
