@@ -13,9 +13,8 @@ mod sized;
 pub use anywhere::AnywhereTip;
 pub use doubled::DoubledTip;
 pub use near::NearTip;
-pub use sized::SizedTip;
-
 use plane::Point;
+pub use sized::SizedTip;
 
 // Whether a sheet can have the point.
 fn is_sheet_point(point: Point) -> bool
