@@ -18,8 +18,8 @@ pub enum Stage {
 
 /// One sheet at its stage, as plain numbers; an empty Draft has width 0.
 // Plain numbers are the same on every machine: so width 0, which no file has, tells that a Draft is empty, and no `Option`. The counts
-// are of tables that are the caller's.
-#[derive(Clone, Copy, PartialEq, Eq, Debug)]
+// are of tables that are the caller's. It is neither `Copy` nor `Clone`, so that nobody has an old one to put back after a turn.
+#[derive(PartialEq, Eq, Debug, Drop)]
 pub struct Board {
     pub(crate) stage: Stage,
     pub(crate) size: Size,

@@ -13,7 +13,7 @@ ghost use Rattle.board.specs.Judging.{DraftJudged};
 use crate::stage::{Board, Stage};
 use bottom::{LEAST_LIVE, cut_tables, have_room};
 use checking::{check_tables, front};
-use lent::LentList;
+use lent::{LentList, LentView};
 use nodes::{ReadStore, WriteStore};
 use placing::{place_all, place_tip};
 use plane::{Edge, Kernel, Point};
@@ -195,7 +195,7 @@ impl Board {
         let Stage::Layered = self.stage else {
             return Err(Refusal::new(Cause::NotThisStage, Layer::Build, 0));
         };
-        let live = front(live, usize::from(self.live));
+        let live = LentView::over(live, usize::from(self.live)).elements();
         sealing::seal(self.size.inner, live, store)?;
         self.stage = Stage::Sealed;
         Ok(())
@@ -229,7 +229,7 @@ impl Board {
             return Err(Refusal::new(Cause::NotThisStage, Layer::Place, 0));
         }
         let points = front(points, usize::from(self.size.inner) + 4);
-        let tops = front(live, usize::from(self.live));
+        let tops = LentView::over(live, usize::from(self.live)).elements();
         place_tip(self.size, tip, 0, points, tops, store)
     }
 
@@ -253,7 +253,7 @@ impl Board {
             return Err(Refusal::new(Cause::NotThisStage, Layer::Place, 0));
         }
         let points = front(points, usize::from(self.size.inner) + 4);
-        let tops = front(live, usize::from(self.live));
+        let tops = LentView::over(live, usize::from(self.live)).elements();
         place_all(self.size, tips, points, tops, store, answers);
         Ok(())
     }

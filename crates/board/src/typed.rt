@@ -116,6 +116,16 @@ impl Draft {
         }
     }
 
+    /// Gives the sheet up, and empties the store.
+    pub fn wipe<S: WriteStore>(self, store: &mut S) -> Draft
+        ensures board { draft_board result ≡ bare }
+        ensures nodes { S.ReadStore.nodes store.new ≡ [] }
+        ensures room { S.WriteStore.room store.new ≡ S.WriteStore.room store.old }
+    {
+        self.end();
+        wiped(store)
+    }
+
     /// Lets the sheet go.
     pub fn end(self)
         ensures { result ≡ tt }

@@ -1,20 +1,14 @@
 -- A table numbered from 0 on.
-use Rattle.std.proofs.Common.{◌≡◌, ℕ, zero, suc, ◌+◌, ◌<◌, List, [], ◌∷◌, ◌++◌, length, set, sym, ap, ◌∙◌, arith}
+use Rattle.std.proofs.Common.{◌≡◌, ℕ, ◌-◌, ◌≤◌, List, length, ap, ◌∙◌, arith}
 use Rattle.std.specs.List.{range_with_len}
 use Rattle.std.proofs.lemmas.List.FromFn.{length-range_with_len}
-use Rattle.lent.specs.Kept.{over}
-use Rattle.lent.proofs.Puts.{over_more}
+use Rattle.lent.specs.Kept.{Kept, kept, over, puts}
+use Rattle.lent.proofs.Puts.{over_from_puts}
 
-pub range_push : (a n : ℕ) → range_with_len a (n + 1) ≡ range_with_len a n ++ (a + n) ∷ []
-range_push a zero = ap (λ k. k ∷ []) (omega arith)
-range_push a (suc n) =
-    let e : suc n + 1 ≡ suc (n + 1) = omega arith in
-    ap (range_with_len a) e ∙ ap (λ ks. a ∷ ks) (range_push (a + 1) n ∙ ap (λ k. range_with_len (a + 1) n ++ k ∷ []) (omega arith))
-
--- one number more
-pub number_more : (items : List ℕ) (i : ℕ) → i < length items → set (over (range_with_len 0 i) items) i i ≡ over (range_with_len 0 (i + 1)) items
-number_more items i inside =
-    let ks = range_with_len 0 i in
-    let n : length ks ≡ i = length-range_with_len 0 i in
-    let more : ks ++ i ∷ [] ≡ range_with_len 0 (i + 1) = sym (range_push 0 i ∙ ap (λ k. ks ++ k ∷ []) (omega arith)) in
-    ap (λ k. set (over ks items) k i) (sym n) ∙ over_more items ks i (omega (arith, n, inside)) ∙ ap (λ l. over l items) more
+-- what the table holds once the list ends
+pub numbered : (k₁ : Kept ℕ) (items new final : List ℕ) (count n : ℕ) → kept new n ≡ puts k₁ (range_with_len 0 (count - 0)) → k₁ ≡ kept items 0 → count ≤ length items
+    → final ≡ new → final ≡ over (range_with_len 0 count) items
+numbered k₁ items new final count n e first room last =
+    let all : count - 0 ≡ count = omega arith in
+    let long = length-range_with_len 0 count in
+    last ∙ over_from_puts (kept new n) k₁ items (range_with_len 0 count) (e ∙ ap (λ m. puts k₁ (range_with_len 0 m)) all) first (omega (arith, long))

@@ -12,6 +12,7 @@ ghost use Rattle.bottom.specs.Cuts.{Within, answered, build_room, cut_live, cut_
 
 use crate::loops::cut_loops;
 use checking::{front, wrong_entry};
+use lent::LentList;
 use nodes::WriteStore;
 use plane::{Edge, Point};
 use refusal::{Cause, Layer, Refusal};
@@ -28,14 +29,13 @@ pub fn have_room(points: &[Point], edges: &[Edge], loops: &[Loop], live: &[u16])
     live.len() >= LEAST_LIVE && sheet::have_room(points, edges, loops)
 }
 
-// Numbers the front of the live table: all nodes are live.
+// Numbers the front of the live table, which has room: all nodes are live.
 fn number(live: &mut [u16], count: u16)
     requires { count ≤ length live.old }
     ensures { live.new ≡ over (range_with_len 0 count) live.old }
 {
-    for i in 0..count {
-        live[usize::from(i)] = i;
-    }
+    let mut list = LentList::over(live, 0);
+    list.append_range(0, count);
 }
 
 // Cuts the loops into the store, which has room for their nodes, or leaves it empty where one is stuck.

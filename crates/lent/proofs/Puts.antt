@@ -1,9 +1,10 @@
 -- What a slice holds after several elements were put into it.
-use Rattle.std.proofs.Common.{◌≡◌, ℕ, suc, ◌+◌, ◌<◌, ◌≤◌, List, [], ◌∷◌, ◌++◌, add-one, length, get_or, take, drop, drop-cons, set, sym, refl, ap, ◌∙◌, append_assoc, arith}
+use Rattle.std.proofs.Common.{◌≡◌, ℕ, zero, suc, ◌+◌, ◌-◌, ◌<◌, ◌≤◌, List, [], ◌∷◌, ◌++◌, add-one, length, get_or, take, drop, drop-cons, set, sym, refl, ap, ◌∙◌, append_assoc, arith}
+use Rattle.std.specs.List.{range_with_len}
 use Rattle.std.proofs.Math.Seq.{set-append_seam}
 use Rattle.std.proofs.lemmas.List.{length-append, length-set, take_more, take_more_set, drop-set-lt, take-append-drop, take_at}
 use Rattle.std.proofs.lemmas.Bool.{lt-ltb, cond-true}
-use Rattle.lent.specs.Kept.{Kept, elements, kept, put, puts, over}
+use Rattle.lent.specs.Kept.{Kept, count_of, elements, kept, put, puts, over}
 
 pub puts_push : {X : Type 0} (k : Kept X) (xs : List X) (x : X) → puts k (xs ++ x ∷ []) ≡ put (puts k xs) x
 puts_push k [] x = refl
@@ -70,3 +71,32 @@ over_from_puts k k₁ items xs e f h = ap (λ (j : Kept _). j.items) (e ∙ ap (
 -- and the elements of the list
 pub elements_from_puts : {X : Type 0} (k k₁ : Kept X) (items xs : List X) → k ≡ puts k₁ xs → k₁ ≡ kept items 0 → length xs ≤ length items → elements k ≡ xs
 elements_from_puts k k₁ items xs e f h = ap elements (e ∙ ap (λ j. puts j xs) f ∙ puts_over items xs h) ∙ take_at xs (drop (length xs) items) (length xs) refl
+
+-- how many they are, and where they stand
+pub counted_from_puts : {X : Type 0} (k k₁ : Kept X) (items xs : List X) → k ≡ puts k₁ xs → k₁ ≡ kept items 0 → length xs ≤ length items → count_of k ≡ length xs
+counted_from_puts k k₁ items xs e f h =
+    let long = length-append xs (drop (length xs) items) in
+    ap count_of (e ∙ ap (λ j. puts j xs) f ∙ puts_over items xs h) ∙ omega (arith, long)
+
+pub front_from_puts : {X : Type 0} (k k₁ : Kept X) (items xs : List X) → k ≡ puts k₁ xs → k₁ ≡ kept items 0 → length xs ≤ length items → take (length xs) k.items ≡ xs
+front_from_puts k k₁ items xs e f h = ap (take (length xs)) (over_from_puts k k₁ items xs e f h) ∙ take_at xs (drop (length xs) items) (length xs) refl
+
+-- ---- a range of numbers
+
+range_push : (a n : ℕ) → range_with_len a (n + 1) ≡ range_with_len a n ++ (a + n) ∷ []
+range_push a zero = ap (λ k. k ∷ []) (omega arith)
+range_push a (suc n) =
+    let e : suc n + 1 ≡ suc (n + 1) = omega arith in
+    ap (range_with_len a) e ∙ ap (λ ks. a ∷ ks) (range_push (a + 1) n ∙ ap (λ k. range_with_len (a + 1) n ++ k ∷ []) (omega arith))
+
+-- one number more, where those from a up to i were put
+pub range_next : (k₀ k k' : Kept ℕ) (a i : ℕ) → a ≤ i → k ≡ puts k₀ (range_with_len a (i - a)) → k' ≡ put k i → k' ≡ puts k₀ (range_with_len a (i + 1 - a))
+range_next k₀ k k' a i from e e' =
+    let more : i + 1 - a ≡ i - a + 1 = omega arith in
+    let last : a + (i - a) ≡ i = omega arith in
+    puts_next k₀ k k' (range_with_len a (i - a)) i e e'
+    ∙ ap (puts k₀) (sym (ap (range_with_len a) more ∙ range_push a (i - a) ∙ ap (λ n. range_with_len a (i - a) ++ n ∷ []) last))
+
+-- none of them yet, and all where the end is come to
+pub range_none : (k₀ : Kept ℕ) (a : ℕ) → k₀ ≡ puts k₀ (range_with_len a (a - a))
+range_none k₀ a = let n : a - a ≡ 0 = omega arith in ap (λ m. puts k₀ (range_with_len a m)) (sym n)

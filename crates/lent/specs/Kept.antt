@@ -3,6 +3,7 @@ use Rattle.std.specs.Prelude.{◌≡◌, ℕ, ◌+◌, min, cond, List, [], ◌�
 use Rattle.std.specs.Option.{ok_or}
 use Rattle.std.specs.List.{slice_get}
 use Rattle.lent.specs.declared.LentList.{LentList}
+use Rattle.lent.specs.declared.LentView.{LentView}
 use Rattle.refusal.specs.declared.Cause.{Cause}
 use Rattle.refusal.specs.declared.Cause.TheVariants.{TableTooShort, OutOfRange}
 
@@ -21,6 +22,10 @@ kept_in l = kept l.items.now l.count
 -- the list is over the slice that it was over
 abbrev pub SameSlice : {X : Type 0} → LentList X → LentList X → Type 0
 SameSlice old new = new.items.ghost_name ≡ old.items.ghost_name
+
+-- the elements that a list for reading shows
+abbrev pub shown : {X : Type 0} → LentView X → List X
+shown v = v.items.now
 
 -- how many elements there are: no more than the slice has
 abbrev pub count_of : {X : Type 0} → Kept X → ℕ
@@ -43,8 +48,11 @@ puts k [] = k
 puts k (x ∷ xs) = puts (put k x) xs
 
 -- the element at position i
+abbrev pub read_at : {X : Type 0} → List X → ℕ → Result X Cause
+read_at xs i = ok_or (slice_get xs i) OutOfRange
+
 abbrev pub read_said : {X : Type 0} → Kept X → ℕ → Result X Cause
-read_said k i = ok_or (slice_get (elements k) i) OutOfRange
+read_said k i = read_at (elements k) i
 
 -- no element, over the same slice
 abbrev pub none : {X : Type 0} → Kept X → Kept X

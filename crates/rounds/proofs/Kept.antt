@@ -1,8 +1,11 @@
 -- The live nodes that stay, one after another, and the new ones behind them.
-use Rattle.std.proofs.Common.{◌≡◌, ℕ, zero, suc, ◌+◌, ◌<◌, Bool, true, false, not, cond, List, [], ◌∷◌, ◌++◌, length, map, get_or, take, set, refl, sym, ap, ◌∙◌, append_assoc, arith}
+use Rattle.std.proofs.Common.{◌≡◌, ℕ, ◌+◌, ◌-◌, ◌<◌, ◌≤◌, Bool, true, false, not, cond, List, [], ◌∷◌, ◌++◌, length, map, get_or, take, refl, sym, ap, ap₂, ◌∙◌, arith}
 use Rattle.std.specs.List.{filter, range_with_len}
-use Rattle.std.proofs.lemmas.List.{append-nil, length_push, map_push, take_more_set}
+use Rattle.std.proofs.lemmas.List.{append-nil, length-append, length_push, map_push}
+use Rattle.std.proofs.lemmas.List.FromFn.{length-range_with_len}
 use Rattle.std.proofs.lemmas.List.Elements.{filter_more}
+use Rattle.lent.specs.Kept.{Kept, count_of, kept, put, puts}
+use Rattle.lent.proofs.Puts.{counted_from_puts, front_from_puts, puts_both, puts_next}
 use Rattle.rounds.specs.declared.held.Held.{Held}
 use Rattle.rounds.specs.Near.{goes_held, kept_near}
 
@@ -27,31 +30,45 @@ module _ (marks : List Bool) (held : List Held) (i : ℕ) (d : Held) (more : i <
       ∙ ap (λ b. filter (λ h. not (goes_held marks h)) (take i held) ++ cond (not b) (get_or held i d ∷ []) []) h)
       ∙ map_push (λ (h : Held). h.node) (filter (λ h. not (goes_held marks h)) (take i held)) (get_or held i d)
 
-  pub kept_written : (live : List ℕ) (n k : ℕ) → goes_held marks (get_or held i d) ≡ false → n < length live → k ≡ (get_or held i d).node
-      → take n live ≡ kept_near marks (take i held) → take (n + 1) (set live n k) ≡ kept_near marks (take (i + 1) held)
-  kept_written live n k h inside is front =
-      take_more_set live n k inside ∙ ap (λ xs. xs ++ k ∷ []) front ∙ ap (λ m. kept_near marks (take i held) ++ m ∷ []) is ∙ sym (kept_push h)
-
   pub kept_counted : (n : ℕ) → goes_held marks (get_or held i d) ≡ false → n ≡ length (kept_near marks (take i held))
       → n + 1 ≡ length (kept_near marks (take (i + 1) held))
   kept_counted n h e = ap (λ m. m + 1) e ∙ sym (ap length (kept_push h) ∙ length_push _ _)
 
 pub ruleset counting = (kept_none, kept_skip, kept_counted)
 
-pub ruleset keeping = (kept_none, kept_skip, kept_counted, kept_written)
+-- one number more is put behind the others
+pub kept_put : (marks : List Bool) (held : List Held) (i : ℕ) (d : Held) (k₀ k k' : Kept ℕ) (node : ℕ) → i < length held → goes_held marks (get_or held i d) ≡ false
+    → node ≡ (get_or held i d).node → k ≡ puts k₀ (kept_near marks (take i held)) → k' ≡ put k node → k' ≡ puts k₀ (kept_near marks (take (i + 1) held))
+kept_put marks held i d k₀ k k' node more stays is e e' =
+    puts_next k₀ k k' (kept_near marks (take i held)) node e e'
+    ∙ ap (puts k₀) (ap (λ n. kept_near marks (take i held) ++ n ∷ []) is ∙ sym (kept_push marks held i d more stays))
 
-range_more : (a n m : ℕ) → a + n ≡ m → range_with_len a (suc n) ≡ range_with_len a n ++ m ∷ []
-range_more a zero m h = ap (λ k. k ∷ []) (omega arith)
-range_more a (suc n) m h = ap (λ l. a ∷ l) (range_more (a + 1) n m (omega arith))
+pub ruleset keeping = (kept_none, kept_skip)
 
-pub numbered_more : (live front : List ℕ) (kept first i k : ℕ) → kept + i < length live → k ≡ first + i
-    → take (kept + i) live ≡ front ++ range_with_len first i
-    → take (kept + (i + 1)) (set live (kept + i) k) ≡ front ++ range_with_len first (i + 1)
-numbered_more live front kept first i k inside is e =
-    let next : kept + (i + 1) ≡ kept + i + 1 = omega arith in
-    let more : i + 1 ≡ suc i = omega arith in
-    ap (λ n. take n (set live (kept + i) k)) next ∙ take_more_set live (kept + i) k inside ∙ ap (λ xs. xs ++ k ∷ []) e
-    ∙ append_assoc front (range_with_len first i) (k ∷ [])
-    ∙ ap (λ xs. front ++ xs) (sym (ap (range_with_len first) more ∙ range_more first i k (sym is)))
+-- ---- the list of them all
 
-pub ruleset numbering = (numbered_more)
+module _ (table : List ℕ) (kept_numbers : List ℕ) (first fresh from to : ℕ) (k₀ k₁ k₂ : Kept ℕ) (start : k₀ ≡ kept table 0) (stay : k₁ ≡ puts k₀ kept_numbers)
+    (join : k₂ ≡ puts k₁ (range_with_len from (to - from))) (low : from ≡ first) (high : to ≡ first + fresh) (room : length kept_numbers + fresh ≤ length table) where
+  all : List ℕ
+  all = kept_numbers ++ range_with_len first fresh
+
+  put_all : k₂ ≡ puts k₀ all
+  unfolding all
+  put_all =
+      let n : to - from ≡ fresh = omega arith in
+      puts_both k₀ k₁ k₂ kept_numbers (range_with_len first fresh) stay (join ∙ ap₂ (λ a m. puts k₁ (range_with_len a m)) low n)
+
+  all_long : length all ≡ length kept_numbers + fresh
+  unfolding all
+  all_long = length-append kept_numbers (range_with_len first fresh) ∙ ap (λ n. length kept_numbers + n) (length-range_with_len first fresh)
+
+  pub settled_count : (n : ℕ) → n ≡ count_of k₂ → n ≡ length kept_numbers + fresh
+  settled_count n counted = counted ∙ counted_from_puts k₂ k₀ table all put_all start (omega (arith, all_long)) ∙ all_long
+
+  -- and what the table holds once the list ends
+  pub settled_live : (n : ℕ) → n ≡ count_of k₂ → (final : List ℕ) → final ≡ k₂.items → take n final ≡ kept_numbers ++ range_with_len first fresh
+  unfolding all
+  settled_live n counted final last =
+      ap (take n) last
+      ∙ ap (λ m. take m k₂.items) (counted ∙ counted_from_puts k₂ k₀ table all put_all start (omega (arith, all_long)))
+      ∙ front_from_puts k₂ k₀ table all put_all start (omega (arith, all_long))

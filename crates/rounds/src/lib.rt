@@ -12,8 +12,8 @@ mod live;
 mod numbers;
 mod taking;
 
-use checking::front;
 use held::Held;
+use live::live_numbers;
 use nodes::WriteStore;
 pub use numbers::wrong_nodes;
 use numbers::{MOST_NODES, MOST_VERTICES, wrong_number};
@@ -43,7 +43,8 @@ pub fn round<S: WriteStore>(
     ensures live { RoundLive (round_said size points.now (S.ReadStore.nodes store.old) (take count live.old) rounds (S.WriteStore.room store.old) (length live.old)) live.old live.new }
     ensures room { S.WriteStore.room store.new ≡ S.WriteStore.room store.old }
 {
-    if let Some(place) = wrong_number(size, points, store, front(live, count)) {
+    let numbers = live_numbers(live, count);
+    if let Some(place) = wrong_number(size, points, store, numbers) {
         return Err(Refusal::new(Cause::OutOfRange, Layer::Build, place));
     }
     let mut table = [Held::default(); MOST_NODES];

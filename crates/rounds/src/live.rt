@@ -1,10 +1,19 @@
 //! The live nodes after a round.
 ghost use Rattle.std.specs.Prelude.{◌≡◌, ◌+◌, ◌≤◌, ◌++◌, length, take};
 ghost use Rattle.std.specs.List.{range_with_len};
+ghost use Rattle.lent.specs.Kept.{kept_in, puts, SameSlice};
 ghost use Rattle.rounds.specs.Near.{goes_held, kept_near};
 
 use crate::choices::is_marked;
 use crate::held::Held;
+use lent::{LentList, LentView};
+
+// The live numbers: the first of their table.
+pub(crate) fn live_numbers(live: &[u16], count: usize) -> &[u16]
+    ensures { result.now ≡ take count live.now }
+{
+    LentView::over(live, count).elements()
+}
 
 // Whether a live node has a chosen corner.
 fn goes(marks: &[bool], item: &Held) -> bool
@@ -30,37 +39,21 @@ pub(crate) fn count_kept(held: &[Held], marks: &[bool]) -> usize
     count
 }
 
-// Puts the numbers of those into the front of `live`, and answers how many they are.
+// Puts the numbers of those behind the last of a list.
 #[tactic(auto, using(crate::proofs::Kept::keeping))]
-fn keep(held: &[Held], marks: &[bool], live: &mut [u16]) -> usize
-    requires { length held.now ≤ length live.old }
-    ensures count { result ≡ length (kept_near marks.now held.now) }
-    ensures live { take result live.new ≡ kept_near marks.now held.now }
+fn keep(held: &[Held], marks: &[bool], live: &mut LentList<'_, u16>)
+    ensures kept { kept_in live.new ≡ puts (kept_in live.old) (kept_near marks.now held.now) }
+    ensures lent { SameSlice live.old live.new }
 {
-    let mut count = 0;
     for item in held {
         if goes(marks, item) {
             continue;
         }
-        live[count] = item.node;
-        count += 1;
-    }
-    count
-}
-
-// Puts the numbers of new nodes, from `first` on, behind those.
-#[tactic(auto, using(crate::proofs::Kept::numbering))]
-fn number_on(live: &mut [u16], kept: usize, first: usize, fresh: usize)
-    requires room { kept + fresh ≤ length live.old }
-    requires numbers { first + fresh ≤ 65536 }
-    ensures { take (kept + fresh) live.new ≡ take kept live.old ++ range_with_len first fresh }
-{
-    for i in 0..fresh {
-        live[kept + i] = (first + i) as u16;
+        let _ = live.append(item.node);
     }
 }
 
-// The nodes without a chosen corner stay live, in their order, and the new ones come behind them.
+// The nodes without a chosen corner stay live, in their order, and the new ones come behind them; there is room for these numbers.
 pub(crate) fn settle(
     held: &[Held],
     marks: &[bool],
@@ -68,13 +61,13 @@ pub(crate) fn settle(
     fresh: usize,
     live: &mut [u16],
 ) -> usize
-    requires held { length held.now ≤ length live.old }
     requires room { length (kept_near marks.now held.now) + fresh ≤ length live.old }
-    requires numbers { first + fresh ≤ 65536 }
+    requires numbers { first + fresh ≤ 65535 }
     ensures count { result ≡ length (kept_near marks.now held.now) + fresh }
     ensures live { take result live.new ≡ kept_near marks.now held.now ++ range_with_len first fresh }
 {
-    let kept = keep(held, marks, live);
-    number_on(live, kept, first, fresh);
-    kept + fresh
+    let mut list = LentList::over(live, 0);
+    keep(held, marks, &mut list);
+    list.append_range(first as u16, (first + fresh) as u16);
+    list.count()
 }

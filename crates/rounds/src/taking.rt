@@ -9,9 +9,8 @@ ghost use Rattle.rounds.specs.Rounds.{RoundLive, found_refusal as found_refusal_
 use crate::choices::{Tally, look_all};
 use crate::closing::close_all;
 use crate::held::{Held, hold};
-use crate::live::{count_kept, settle};
+use crate::live::{count_kept, live_numbers, settle};
 use crate::numbers::MOST_VERTICES;
-use checking::front;
 use fans::degrees;
 use nodes::{ReadStore, WriteStore};
 use plane::Point;
@@ -86,7 +85,6 @@ fn take_out<S: WriteStore>(
     live: &mut [u16],
     store: &mut S,
 ) -> Result<usize, Refusal>
-    requires held { length held.now ≤ length live.old }
     requires few { length held.now ≤ 8194 }
     requires marks { length marks.now ≤ 1028 }
     requires nodes { length (S.ReadStore.nodes store.old) ≤ 8194 }
@@ -125,7 +123,7 @@ pub(crate) fn round_within<S: WriteStore>(
     ensures live { RoundLive (right_said size points.now (S.ReadStore.nodes store.old) (take count live.old) rounds (S.WriteStore.room store.old) (length live.old)) live.old live.new }
     ensures room { S.WriteStore.room store.new ≡ S.WriteStore.room store.old }
 {
-    let numbers = front(live, count);
+    let numbers = live_numbers(live, count);
     hold(store, numbers, table);
     let held = &table[..numbers.len()];
     match choose(points, store, numbers, held, marks) {

@@ -9,41 +9,34 @@ use Rattle.rounds.proofs.taking.round_within.Goals as goal
 
 pub hold-requires : goal.hold-requires
 hold-requires g c =
-    let n = ap length c.front-numbers.ensures in
+    let n = ap length c.live_numbers-numbers.ensures in
     let few = right_few c.args.size c.args.points.now (g.S.ReadStore.nodes c.args.store.now) (take c.args.count c.args.live.now) c.requires.right in
     let long = c.requires.table in
     omega arith
 
 pub choose-requires-clause-live : goal.choose-requires-clause-live
 choose-requires-clause-live g c =
-    ap (live_said (g.S.ReadStore.nodes c.args.store.now)) c.front-numbers.ensures
+    ap (live_said (g.S.ReadStore.nodes c.args.store.now)) c.live_numbers-numbers.ensures
     ∙ right_told c.args.size c.args.points.now (g.S.ReadStore.nodes c.args.store.now) (take c.args.count c.args.live.now) c.requires.right
-
-pub take_out-requires-clause-held : goal.take_out-requires-clause-held
-take_out-requires-clause-held g c =
-    let n = ap length c.front-numbers.ensures in
-    let k = length-take c.args.count c.args.live.now in
-    let h = length-take (length c.front-numbers.result.now) c.hold.new.held in
-    omega arith
 
 pub returns-in-Ok-clause-said : goal.returns-in-Ok-clause-said
 returns-in-Ok-clause-said g c =
     c.take_out.ensures.said
     ∙ sym (ap round_count
-    (right_taken c.args.size c.args.points.now _ _ c.args.rounds _ _ _ _ (right_told c.args.size c.args.points.now _ _ c.requires.right) (c.hold.ensures ∙ ap (held_of _) c.front-numbers.ensures)
+    (right_taken c.args.size c.args.points.now _ _ c.args.rounds _ _ _ _ (right_told c.args.size c.args.points.now _ _ c.requires.right) (c.hold.ensures ∙ ap (held_of _) c.live_numbers-numbers.ensures)
     c.requires.marks _ _ c.choose.auto.marks c.in-Ok.ensures.looked))
 
 pub returns-in-Ok-clause-nodes : goal.returns-in-Ok-clause-nodes
 returns-in-Ok-clause-nodes g c =
     c.take_out.ensures.nodes
     ∙ sym (ap (λ s. round_nodes s (g.S.ReadStore.nodes c.args.store.now))
-    (right_taken c.args.size c.args.points.now _ _ c.args.rounds _ _ _ _ (right_told c.args.size c.args.points.now _ _ c.requires.right) (c.hold.ensures ∙ ap (held_of _) c.front-numbers.ensures)
+    (right_taken c.args.size c.args.points.now _ _ c.args.rounds _ _ _ _ (right_told c.args.size c.args.points.now _ _ c.requires.right) (c.hold.ensures ∙ ap (held_of _) c.live_numbers-numbers.ensures)
     c.requires.marks _ _ c.choose.auto.marks c.in-Ok.ensures.looked))
 
 pub returns-in-Ok-clause-live : goal.returns-in-Ok-clause-live
 returns-in-Ok-clause-live g c =
     subst (λ s. RoundLive s c.args.live.now c.take_out.new.live)
-    (sym (right_taken c.args.size c.args.points.now _ _ c.args.rounds _ _ _ _ (right_told c.args.size c.args.points.now _ _ c.requires.right) (c.hold.ensures ∙ ap (held_of _) c.front-numbers.ensures)
+    (sym (right_taken c.args.size c.args.points.now _ _ c.args.rounds _ _ _ _ (right_told c.args.size c.args.points.now _ _ c.requires.right) (c.hold.ensures ∙ ap (held_of _) c.live_numbers-numbers.ensures)
     c.requires.marks _ _ c.choose.auto.marks c.in-Ok.ensures.looked))
     c.take_out.ensures.live
 
@@ -51,18 +44,18 @@ pub returns-in-Err-clause-said : goal.returns-in-Err-clause-said
 returns-in-Err-clause-said g c =
     ap Err c.new.ensures
     ∙ sym (ap round_count
-    (right_broken c.args.size c.args.points.now _ _ c.args.rounds _ _ _ _ (right_told c.args.size c.args.points.now _ _ c.requires.right) (c.hold.ensures ∙ ap (held_of _) c.front-numbers.ensures)
+    (right_broken c.args.size c.args.points.now _ _ c.args.rounds _ _ _ _ (right_told c.args.size c.args.points.now _ _ c.requires.right) (c.hold.ensures ∙ ap (held_of _) c.live_numbers-numbers.ensures)
     c.requires.marks _ c.in-Err.ensures.looked))
 
 pub returns-in-Err-clause-nodes : goal.returns-in-Err-clause-nodes
 returns-in-Err-clause-nodes g c =
     sym (ap (λ s. round_nodes s (g.S.ReadStore.nodes c.args.store.now))
-    (right_broken c.args.size c.args.points.now _ _ c.args.rounds _ _ _ _ (right_told c.args.size c.args.points.now _ _ c.requires.right) (c.hold.ensures ∙ ap (held_of _) c.front-numbers.ensures)
+    (right_broken c.args.size c.args.points.now _ _ c.args.rounds _ _ _ _ (right_told c.args.size c.args.points.now _ _ c.requires.right) (c.hold.ensures ∙ ap (held_of _) c.live_numbers-numbers.ensures)
     c.requires.marks _ c.in-Err.ensures.looked))
 
 pub returns-in-Err-clause-live : goal.returns-in-Err-clause-live
 returns-in-Err-clause-live g c =
     subst (λ s. RoundLive s c.args.live.now c.args.live.now)
-    (sym (right_broken c.args.size c.args.points.now _ _ c.args.rounds _ _ _ _ (right_told c.args.size c.args.points.now _ _ c.requires.right) (c.hold.ensures ∙ ap (held_of _) c.front-numbers.ensures)
+    (sym (right_broken c.args.size c.args.points.now _ _ c.args.rounds _ _ _ _ (right_told c.args.size c.args.points.now _ _ c.requires.right) (c.hold.ensures ∙ ap (held_of _) c.live_numbers-numbers.ensures)
     c.requires.marks _ c.in-Err.ensures.looked))
     refl
