@@ -29,13 +29,13 @@ pub fn no_number_is_wrong_stands()
     ensures { NoNumberIsWrong }
 {}
 
-/// A cut of a checked sheet is not refused because of a number outside its range, nor a store that has room for the bottom nodes.
+/// A cut of a checked sheet is never refused because of a number outside its range, nor for want of room in a store for the bottom nodes.
 #[tactic(auto, using(crate::proofs::Theorems::cut_is_unhindered))]
 pub fn cut_is_unhindered_stands()
     ensures { CutIsUnhindered }
 {}
 
-/// Nor is a round, where the store has room for as many nodes as the sheet can have.
+/// Nor is a round over one of its layers, nor for want of room in a store for as many nodes as the sheet can have.
 #[tactic(auto, using(crate::proofs::Theorems::round_is_unhindered))]
 pub fn round_is_unhindered_stands()
     ensures { RoundIsUnhindered }
