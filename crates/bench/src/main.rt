@@ -25,7 +25,7 @@ fn build<S: WriteStore>(desk: &mut Desk, store: &mut S, file: &[u8]) -> Result<(
     desk.check()?;
     desk.cut(store)?;
     // A round takes out one vertex at least.
-    for _round in 0..desk.board.size().inner {
+    for _round in 0..desk.size().inner {
         if desk.seal(store).is_ok() {
             return Ok(());
         }

@@ -10,16 +10,17 @@ ghost use Rattle.rounds.specs.Rounds.{RoundLive, round_nodes};
 ghost use Rattle.board.specs.Standing.{ListTold, TipTold};
 ghost use Rattle.board.specs.Law.{ListRight, RightNext, SealFew};
 ghost use Rattle.board.specs.Unaltered.{CutUnaltered, RoundUnaltered, SealUnaltered};
-ghost use Rattle.board.specs.Turns.{check_board, cut_board, list_answers, load_board, places, round_board, seal_board, seals};
+ghost use Rattle.board.specs.Turns.{bare, check_board, cut_board, list_answers, live_of, load_board, places, round_board, seal_board, seals};
 ghost use Rattle.desk.specs.Desks.{IsFresh, TablesStay, desk_checks, desk_cuts, desk_lists, desk_loads, desk_rounds};
 
-use board::{Board, LEAST_LIVE};
+use board::{Board, LEAST_LIVE, Stage};
 use checking::LEAST_STROKES;
+use lent::LentView;
 use nodes::{ReadStore, WriteStore};
 use plane::{Edge, Kernel, Point};
 use refusal::Refusal;
 use rules::Stroke;
-use sheet::{LEAST_EDGES, LEAST_LOOPS, LEAST_POINTS, Loop};
+use sheet::{LEAST_EDGES, LEAST_LOOPS, LEAST_POINTS, Loop, Size};
 use std::alloc::{AllocError, Global};
 use walk::Found;
 
@@ -50,8 +51,8 @@ pub const LEAST: Lengths = Lengths {
 /// A board, and the tables that it lends to its turns.
 #[derive(Drop)]
 pub struct Desk {
-    /// The board, which knows the sheet's stage and size.
-    pub board: Board,
+    // The board, which knows the sheet's stage and size: no caller can set another.
+    board: Board,
     /// The corners of the sheet, and then its inner vertices.
     pub points: Vec<Point>,
     /// The directed edges of all loops, and then the four outside edges.
@@ -77,6 +78,43 @@ impl Desk {
             loops: vec![in heap; Loop::default(); lengths.loops]?,
             live: vec![in heap; 0; lengths.live]?,
         })
+    }
+
+    /// Begins anew with an empty Draft over the tables as they are, and over a store that holds anything; the sheet before it is let go.
+    pub fn begin(&mut self)
+        ensures board { self.new.board ≡ bare }
+        ensures live { self.new.live.items ≡ self.old.live.items }
+        ensures tables { TablesStay self.old self.new }
+    {
+        self.board = Board::new();
+    }
+
+    /// How far the sheet has come.
+    pub fn stage(&self) -> Stage
+        ensures { result ≡ self.now.board.stage }
+    {
+        self.board.stage()
+    }
+
+    /// How large the sheet is; all zeros for an empty Draft.
+    pub fn size(&self) -> Size
+        ensures { result ≡ self.now.board.size }
+    {
+        self.board.size()
+    }
+
+    /// How many rounds were granted since the cut; it stays at 65,535.
+    pub fn rounds(&self) -> u16
+        ensures { result ≡ self.now.board.rounds }
+    {
+        self.board.rounds()
+    }
+
+    /// The numbers of the live nodes: the first of their table.
+    pub fn live_nodes(&self) -> &[u16]
+        ensures { result.now ≡ live_of self.now.board self.now.live.items }
+    {
+        LentView::over(self.live.as_slice(), usize::from(self.board.live())).elements()
     }
 
     /// Replaces the Draft by the sheet of a file; a refusal leaves the board and the tables as they are.
@@ -191,6 +229,17 @@ impl Desk {
         let points = self.points.as_slice();
         let live = self.live.as_slice();
         self.board.list(tips, points, live, store, answers)
+    }
+
+    /// Makes an empty Draft and empties the store, as the board does; never refused.
+    pub fn wipe<S: WriteStore>(&mut self, store: &mut S)
+        ensures board { self.new.board ≡ bare }
+        ensures nodes { S.ReadStore.nodes store.new ≡ [] }
+        ensures room { S.WriteStore.room store.new ≡ S.WriteStore.room store.old }
+        ensures live { self.new.live.items ≡ self.old.live.items }
+        ensures tables { TablesStay self.old self.new }
+    {
+        self.board.wipe(store);
     }
 }
 

@@ -12,7 +12,7 @@ fn a_desk_takes_a_sheet(rt: HostRuntime) -> Result<(), Fail> {
     let mut desk = Desk::new(rt.alloc(), LEAST)?;
     assert_eq!(rt; desk.live.len(), 2050);
     desk.load(&SQUARE)?;
-    assert_eq!(rt; desk.board.size().corners, 4);
+    assert_eq!(rt; desk.size().corners, 4);
     assert_eq!(rt; desk.points.get(2).copied(), Some(Point { x: 2, y: 2 }));
     assert_eq!(rt; desk.edges.get(3).copied(), Some(Edge { from: 3, to: 0 }));
     Ok(())
@@ -40,6 +40,6 @@ fn a_desk_refuses_what_its_board_refuses(rt: HostRuntime) -> Result<(), Fail> {
         return Err(Fail::new("taken"));
     };
     assert_eq!(rt; (refusal.cause.number(), refusal.place), (3, 0));
-    assert_eq!(rt; desk.board.size().width, 0);
+    assert_eq!(rt; desk.size().width, 0);
     Ok(())
 }

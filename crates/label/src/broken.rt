@@ -39,7 +39,7 @@ pub(crate) fn clash_words(
 
 // How many triangles the loops would be cut into, and how many are wanted.
 fn sum_words(heap: Global, desk: &Desk) -> Result<String, AllocError> {
-    let size = desk.board.size();
+    let size = desk.size();
     let wanted = 2 * u32::from(size.inner) + 2;
     let corners = u32::from(size.corners);
     let found = corners.saturating_sub(2 * u32::from(size.loops));

@@ -65,7 +65,7 @@ fn prepare<S: WriteStore>(desk: &mut Desk, store: &mut S, file: &[u8]) -> Result
     desk.check()?;
     desk.cut(store)?;
     // A round takes out one vertex at least.
-    for _round in 0..desk.board.size().inner {
+    for _round in 0..desk.size().inner {
         if desk.seal(store).is_ok() {
             return Ok(());
         }
@@ -155,7 +155,7 @@ fn end<S: ReadStore, W: Write + Drop, P: Write + Drop>(
     } = report;
     if asked.stats {
         let nodes = sealed.store.count();
-        let rounds = sealed.desk.board.rounds();
+        let rounds = sealed.desk.rounds();
         let cost = Cost(tally);
         writeln!(out, "nodes {nodes}, rounds {rounds}, {cost}")?;
     }

@@ -19,7 +19,7 @@ pub(crate) fn write_parts<S: ReadStore, W: Write>(
         "{:>4}  {:>7}  {:<room$}  corners",
         "loop", "numeral", "wording"
     )?;
-    let loops = 0..sealed.desk.board.size().loops;
+    let loops = 0..sealed.desk.size().loops;
     for (number, entry) in loops.zip(sealed.desk.loops.iter()) {
         let numeral = entry.some_numeral();
         let wording = sealed.wording(numeral).unwrap_or("-");

@@ -103,7 +103,7 @@ impl<W: Write> Picture<W> {
     where
         W: Drop,
     {
-        let size = sealed.desk.board.size();
+        let size = sealed.desk.size();
         let frame = Frame {
             width: size.width,
             height: size.height,
@@ -144,7 +144,7 @@ impl<W: Write> Picture<W> {
 
     // Each loop of a sheet in order has an area above 0.
     fn write_faces<S: ReadStore>(&mut self, sealed: &Sealed<S>) -> io::Result<()> {
-        let loops = usize::from(sealed.desk.board.size().loops);
+        let loops = usize::from(sealed.desk.size().loops);
         for entry in sealed.desk.loops.iter().take(loops) {
             write!(self.out, "<polygon fill='{}' points='", Tint(entry.numeral))?;
             for edge in loop_edges(sealed.desk.edges.as_slice(), entry) {
@@ -159,7 +159,7 @@ impl<W: Write> Picture<W> {
     // Each edge is listed in both directions, and drawn in one.
     fn write_edges<S: ReadStore>(&mut self, sealed: &Sealed<S>) -> io::Result<()> {
         let points = sealed.desk.points.as_slice();
-        let listed = usize::from(sealed.desk.board.size().corners) + 4;
+        let listed = usize::from(sealed.desk.size().corners) + 4;
         writeln!(self.out, "<path fill='none' stroke='#444' d='")?;
         for edge in sealed.desk.edges.iter().take(listed) {
             let Edge { from, to } = *edge;

@@ -57,7 +57,7 @@ impl<S: ReadStore> Sealed<S> {
             inner,
             loops,
             corners,
-        } = self.desk.board.size();
+        } = self.desk.size();
         writeln!(
             out,
             "sheet {width} x {height}: {inner} inner vertices, {loops} loops, {corners} corners"
@@ -67,7 +67,7 @@ impl<S: ReadStore> Sealed<S> {
     /// Writes how the sheet is layered.
     pub(crate) fn write_layers<W: Write>(&self, out: &mut W) -> io::Result<()> {
         let nodes = self.store.count();
-        let rounds = self.desk.board.rounds();
+        let rounds = self.desk.rounds();
         writeln!(out, "layered: {nodes} nodes in {rounds} rounds")
     }
 }

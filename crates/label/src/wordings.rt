@@ -18,7 +18,7 @@ impl Wordings {
     pub(crate) fn of(heap: Global, desk: &Desk, file: &[u8]) -> Result<Wordings, AllocError> {
         let mut by_numeral = BTreeMap::new(heap);
         let mut room = 7;
-        for (number, entry) in (0..desk.board.size().loops).zip(desk.loops.iter()) {
+        for (number, entry) in (0..desk.size().loops).zip(desk.loops.iter()) {
             if !by_numeral.contains_key(&entry.numeral) {
                 let text = wording_text(heap, file, number)?;
                 room = text.as_ref().map_or(room, |text| text.len().max(room));

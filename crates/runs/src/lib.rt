@@ -10,7 +10,6 @@ ghost use Rattle.runs.specs.Plays.{all_filled, filled as filled_of, history, set
 mod steps;
 mod turns;
 
-use board::Board;
 use desk::Desk;
 use nodes::{ReadStore, WriteStore};
 use plane::Kernel;
@@ -91,6 +90,6 @@ pub fn play<K: Kernel, S: WriteStore>(
     ensures answers { drop (all_filled turns.now outcomes.new) answers.new ≡ drop (all_filled turns.now outcomes.new) answers.old }
     ensures outcomes { drop (length turns.now) outcomes.new ≡ drop (length turns.now) outcomes.old }
 {
-    desk.board = Board::new();
+    desk.begin();
     go_on(desk, store, turns, answers, outcomes);
 }

@@ -91,6 +91,6 @@ pub(crate) fn wipe<S: WriteStore>(desk: &mut Desk, store: &mut S) -> Outcome
     ensures step { Step (state_of desk.old (S.ReadStore.nodes store.old) (S.WriteStore.room store.old)) wipe (outcome_of result) (state_of desk.new (S.ReadStore.nodes store.new) (S.WriteStore.room store.new)) }
     ensures room { S.WriteStore.room store.new ≡ S.WriteStore.room store.old }
 {
-    desk.board.wipe(store);
+    desk.wipe(store);
     Outcome::Granted
 }

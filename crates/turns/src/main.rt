@@ -5,8 +5,8 @@ mod alter;
 mod kernels;
 mod line;
 mod placed;
-mod stored;
 mod table;
+mod taken;
 mod words;
 
 use desk::LEAST;

@@ -1,15 +1,10 @@
-//! Tips, what is asked of a board about them, and what is printed of the answers.
+//! Tips as the words of a script spell them, and lists of them.
 ghost use Rattle.std.specs.Prelude.{◌<◌};
 
-use crate::table::print_refusal;
 use crate::words::number;
-use desk::Desk;
-use nodes::ReadStore;
-use plane::{Kernel, RationalTip, WholeTip};
-use refusal::{Cause, Layer, Refusal};
+use plane::{RationalTip, WholeTip};
 use std::alloc::{AllocError, Global};
 use std::str::Split;
-use walk::Found;
 
 /// A tip as words spell it. It is no `FromStr`, since each takes several words.
 pub(crate) trait Spelled: Sized {
@@ -46,29 +41,19 @@ impl Spelled for RationalTip {
     }
 }
 
-/// What a board is asked.
+/// Tips, and into a table of how many entries they are to be answered.
 #[derive(Drop)]
-pub(crate) enum Asked<K> {
-    /// To place a tip.
-    Place(K),
-    /// To answer tips into a table of so many entries.
-    List { tips: Vec<K>, entries: usize },
-}
-
-/// The place that the next words ask for: a tip; or what is printed where they spell none.
-pub(crate) fn one<K: Spelled>(words: &mut Split<'_, char>) -> Result<Asked<K>, &'static str> {
-    match K::read(words) {
-        Some(tip) => Ok(Asked::Place(tip)),
-        None => Err("no such number"),
-    }
+pub(crate) struct Listed<K> {
+    pub(crate) tips: Vec<K>,
+    pub(crate) entries: usize,
 }
 
 /// The list that all the next words ask for: a count of entries, and tips; or what is printed where they spell none.
 // The words of tips are counted before any is read, so that what is printed of a wrong count does not depend on what they are.
-pub(crate) fn many<K: Spelled + Drop>(
+pub(crate) fn list_of<K: Spelled + Drop>(
     heap: Global,
     words: &mut Split<'_, char>,
-) -> Result<Result<Asked<K>, &'static str>, AllocError> {
+) -> Result<Result<Listed<K>, &'static str>, AllocError> {
     let Some(entries) = number::<u16>(words) else {
         return Ok(Err("no such number"));
     };
@@ -84,61 +69,5 @@ pub(crate) fn many<K: Spelled + Drop>(
         tips.push(tip)?;
     }
     let entries = usize::from(entries);
-    Ok(Ok(Asked::List { tips, entries }))
-}
-
-/// Asks a board, which has the nodes of a store, and prints what it answers.
-pub(crate) fn ask<K: Kernel, S: ReadStore>(
-    rt: &HostRuntime,
-    desk: &mut Desk,
-    asked: &Asked<K>,
-    store: &S,
-) -> anyhow::Result<()> {
-    match asked {
-        Asked::Place(tip) => match desk.place(tip, store) {
-            Ok(found) => {
-                rt.print("ok ")?;
-                print_found(rt, found)?;
-                Ok(rt.println("")?)
-            }
-            Err(refusal) => print_refusal(rt, refusal),
-        },
-        Asked::List { tips, entries } => list(rt, desk, tips.as_slice(), *entries, store),
-    }
-}
-
-// Answers tips into a table of so many entries, and prints those of the tips.
-fn list<K: Kernel, S: ReadStore>(
-    rt: &HostRuntime,
-    desk: &mut Desk,
-    tips: &[K],
-    entries: usize,
-    store: &S,
-) -> anyhow::Result<()> {
-    // Any entry will do: those of the tips are written, and the others are not printed.
-    let unwritten = Err(Refusal::new(Cause::NotThisStage, Layer::Place, 0));
-    let mut answers = vec![in rt.alloc(); unwritten; entries]?;
-    if let Err(refusal) = desk.list(tips, store, answers.as_mut_slice()) {
-        return print_refusal(rt, refusal);
-    }
-    rt.print("ok")?;
-    for (i, answer) in answers.iter().take(tips.len()).enumerate() {
-        rt.print(if i == 0 { " " } else { "; " })?;
-        match answer {
-            Ok(found) => print_found(rt, *found)?,
-            Err(refusal) => {
-                let number = refusal.cause.number();
-                print!(rt; "refused {number}")?;
-            }
-        }
-    }
-    Ok(rt.println("")?)
-}
-
-// The answer with the count of sides tested.
-fn print_found(rt: &HostRuntime, found: Found) -> anyhow::Result<()> {
-    let (kind, a, b) = found.answer.values();
-    let tests = found.tests;
-    print!(rt; "{kind} {a} {b} tests {tests}")?;
-    Ok(())
+    Ok(Ok(Listed { tips, entries }))
 }

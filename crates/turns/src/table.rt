@@ -1,15 +1,18 @@
 use crate::alter::{alter, node_of, put_behind};
 use crate::kernels::{make, tell};
-use crate::placed::{Asked, ask, many, one};
-use crate::stored::{MOST_NODES, play};
+use crate::placed::{Spelled, list_of};
+use crate::taken::{print_cards, print_refusal, take};
 use crate::words::{bytes_of, digest};
 use desk::{Desk, LEAST, Lengths};
 use nodes::{BlockStore, Node, ReadStore, SliceStore};
 use plane::{Kernel, RationalTip, WholeTip};
-use refusal::Refusal;
+use runs::Turn;
 use sheet::{Answer, Size, wording};
 use std::alloc::{AllocError, Global};
 use std::str::Split;
+
+// The most nodes that a sheet can have: 2,050 at the bottom, and 6 for each of 1,024 vertices taken out.
+const MOST_NODES: usize = 8194;
 
 // The most bytes that a script may ask for: a thousand whole blocks, and one byte more.
 const MOST_BYTES: u32 = 512_001;
@@ -54,7 +57,15 @@ impl Table {
         };
         match next() {
             "load" => self.load(rt, next()),
-            "check" => self.check(rt),
+            "check" => self.take::<WholeTip>(rt, &Turn::Check, 0),
+            "cut" => self.take::<WholeTip>(rt, &Turn::Cut, 0),
+            "round" => self.take::<WholeTip>(rt, &Turn::Round, 0),
+            "seal" => self.take::<WholeTip>(rt, &Turn::Seal, 0),
+            "place" => self.place::<WholeTip>(rt, &mut words),
+            "placeq" => self.place::<RationalTip>(rt, &mut words),
+            "list" => self.list::<WholeTip>(rt, &mut words),
+            "listq" => self.list::<RationalTip>(rt, &mut words),
+            "wipe" => self.take::<WholeTip>(rt, &Turn::Wipe, 0),
             "alter" => {
                 let said = match next() {
                     "nodes" => self.alter_nodes(next(), &mut words),
@@ -62,10 +73,6 @@ impl Table {
                 };
                 Ok(rt.println(said)?)
             }
-            "place" => self.ask::<WholeTip>(rt, one(&mut words)),
-            "placeq" => self.ask::<RationalTip>(rt, one(&mut words)),
-            "list" => self.ask::<WholeTip>(rt, many(rt.alloc(), &mut words)?),
-            "listq" => self.ask::<RationalTip>(rt, many(rt.alloc(), &mut words)?),
             "whole" => tell::<WholeTip>(rt, &mut words),
             "rational" => tell::<RationalTip>(rt, &mut words),
             "make" => match next() {
@@ -80,45 +87,72 @@ impl Table {
             "capacity" => self.keep_in_slots(rt, next()),
             "blocks" => self.keep_in_blocks(rt, next()),
             "live" => self.print_live(rt),
-            name => self.play_on_store(rt, name),
+            "cards" => self.print_cards(rt),
+            _ => Ok(rt.println("unknown command")?),
         }
     }
 
-    // Plays a command on the board and a store over its memory.
-    fn play_on_store(&mut self, rt: &HostRuntime, name: &str) -> anyhow::Result<()> {
+    // Takes a turn on the board and a store over its memory; a list is lent a table for so many answers.
+    fn take<K: Kernel>(
+        &mut self,
+        rt: &HostRuntime,
+        turn: &Turn<'_, K>,
+        entries: usize,
+    ) -> anyhow::Result<()> {
         match &mut self.memory {
             Memory::Slots(slots) => {
                 let mut store = SliceStore::over(slots.as_mut_slice(), self.used);
-                play(rt, &mut self.desk, &mut store, name)?;
+                take(rt, &mut self.desk, &mut store, turn, entries)?;
                 self.used = store.count();
             }
             Memory::Blocks(bytes) => {
                 let mut store = BlockStore::over(bytes.as_mut_slice(), self.used);
-                play(rt, &mut self.desk, &mut store, name)?;
+                take(rt, &mut self.desk, &mut store, turn, entries)?;
                 self.used = store.count();
             }
         }
         Ok(())
     }
 
-    // Asks the board, which has the nodes in its memory; or prints why nothing is asked.
-    fn ask<K: Kernel + Drop>(
+    fn load(&mut self, rt: &HostRuntime, hex: &str) -> anyhow::Result<()> {
+        let Some(file) = bytes_of(rt.alloc(), hex)? else {
+            return Ok(rt.println("no such bytes")?);
+        };
+        self.take::<WholeTip>(rt, &Turn::Load(file.as_slice()), 0)
+    }
+
+    // Places the tip that the next words spell.
+    fn place<K: Kernel + Spelled + Drop>(
         &mut self,
         rt: &HostRuntime,
-        asked: Result<Asked<K>, &'static str>,
+        words: &mut Split<'_, char>,
     ) -> anyhow::Result<()> {
-        let asked = match asked {
-            Ok(asked) => asked,
-            Err(said) => return Ok(rt.println(said)?),
-        };
+        match K::read(words) {
+            Some(tip) => self.take(rt, &Turn::Place(tip), 0),
+            None => Ok(rt.println("no such number")?),
+        }
+    }
+
+    // Answers the tips that the next words spell, into a table of so many entries as the first of them says.
+    fn list<K: Kernel + Spelled + Drop>(
+        &mut self,
+        rt: &HostRuntime,
+        words: &mut Split<'_, char>,
+    ) -> anyhow::Result<()> {
+        match list_of::<K>(rt.alloc(), words)? {
+            Ok(listed) => self.take(rt, &Turn::List(listed.tips.as_slice()), listed.entries),
+            Err(said) => Ok(rt.println(said)?),
+        }
+    }
+
+    // The nodes in its memory.
+    fn print_cards(&mut self, rt: &HostRuntime) -> anyhow::Result<()> {
         match &mut self.memory {
             Memory::Slots(slots) => {
-                let store = SliceStore::over(slots.as_mut_slice(), self.used);
-                ask(rt, &mut self.desk, &asked, &store)
+                print_cards(rt, &SliceStore::over(slots.as_mut_slice(), self.used))
             }
             Memory::Blocks(bytes) => {
-                let store = BlockStore::over(bytes.as_mut_slice(), self.used);
-                ask(rt, &mut self.desk, &asked, &store)
+                print_cards(rt, &BlockStore::over(bytes.as_mut_slice(), self.used))
             }
         }
     }
@@ -172,30 +206,14 @@ impl Table {
     // The numbers of the live nodes.
     fn print_live(&self, rt: &HostRuntime) -> anyhow::Result<()> {
         rt.print("ok")?;
-        for node in self
-            .desk
-            .live
-            .iter()
-            .take(usize::from(self.desk.board.live()))
-        {
+        for node in self.desk.live_nodes() {
             print!(rt; " {node}")?;
         }
         Ok(rt.println("")?)
     }
 
-    fn load(&mut self, rt: &HostRuntime, hex: &str) -> anyhow::Result<()> {
-        let Some(file) = bytes_of(rt.alloc(), hex)? else {
-            return Ok(rt.println("no such bytes")?);
-        };
-        print_turn(rt, self.desk.load(file.as_slice()))
-    }
-
-    fn check(&mut self, rt: &HostRuntime) -> anyhow::Result<()> {
-        print_turn(rt, self.desk.check())
-    }
-
     fn print_stage(&self, rt: &HostRuntime) -> anyhow::Result<()> {
-        let stage = self.desk.board.stage();
+        let stage = self.desk.stage();
         println!(rt; "ok {stage:?}")?;
         Ok(())
     }
@@ -236,13 +254,12 @@ impl Table {
     // The board's numbers, and a digest of what each table holds of the sheet.
     fn print_tables(&self, rt: &HostRuntime) -> anyhow::Result<()> {
         let Desk {
-            board,
             points,
             edges,
             loops,
             ..
         } = &self.desk;
-        let size = board.size();
+        let size = self.desk.size();
         let outside = if size.width == 0 { 0 } else { 4 };
         let points = points.iter().take(usize::from(size.inner) + outside);
         let edges = edges.iter().take(usize::from(size.corners) + outside);
@@ -261,28 +278,11 @@ impl Table {
             loops,
             corners,
         } = size;
-        let live = board.live();
+        let live = self.desk.live_nodes().len();
         print!(rt; "ok {width} {height} {inner} {loops} {corners} {live} ")?;
         println!(rt; "points {points_digest} edges {edges_digest} loops {loops_digest}")?;
         Ok(())
     }
-}
-
-/// Prints whether a turn is granted, or its refusal.
-pub(crate) fn print_turn(rt: &HostRuntime, outcome: Result<(), Refusal>) -> anyhow::Result<()> {
-    match outcome {
-        Ok(()) => Ok(rt.println("ok")?),
-        Err(refusal) => print_refusal(rt, refusal),
-    }
-}
-
-/// Prints a refusal.
-pub(crate) fn print_refusal(rt: &HostRuntime, refusal: Refusal) -> anyhow::Result<()> {
-    let number = refusal.cause.number();
-    let layer = refusal.layer.number();
-    let place = refusal.place;
-    println!(rt; "refused {number} {layer} {place}")?;
-    Ok(())
 }
 
 // The answer that a kind and two numbers stand for: the kinds are numbers here, since the words of a script are.
