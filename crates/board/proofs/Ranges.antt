@@ -1,7 +1,7 @@
 -- No turn of a history tells a number outside its range.
-use Rattle.std.proofs.Common.{◌≡◌, ℕ, ◌+◌, ◌≤◌, Bool, true, false, cond, List, [], ◌∷◌, Some, None, Option, Ok, Err, Result, length, nat_le, pos, refl, sym, ap, subst, inl, inr, arith}
+use Rattle.std.proofs.Common.{◌≡◌, ℕ, ◌+◌, ◌≤◌, Bool, true, false, cond, List, [], ◌∷◌, Some, None, Option, Ok, Err, Result, length, nat_le, pos, refl, sym, ap, ◌∙◌, subst, inl, inr, arith}
 use Rattle.std.specs.List.{All}
-use Rattle.std.proofs.lemmas.Bool.{cond-false}
+use Rattle.std.proofs.lemmas.Bool.{cond-false, cond-true}
 use Rattle.std.proofs.lemmas.List.Elements.{All-cons, All-head, All-nil, All-tail}
 use Rattle.plane.specs.declared.Edge.{Edge}
 use Rattle.plane.specs.declared.Point.{Point}
@@ -29,6 +29,7 @@ use Rattle.placing.proofs.Tells.{place_tells}
 use Rattle.walk.specs.declared.Found.{Found}
 use Rattle.webs.specs.Theorems.{Never}
 use Rattle.webs.proofs.Causes.{granted_so, other_cause}
+use Rattle.walk.proofs.Tells.{sized}
 use Rattle.board.specs.declared.stage.Board.{Board}
 use Rattle.board.specs.Histories.{Event, History, State, Step, Told, Turn, answered_by, listed_by, told_by}
 use Rattle.board.specs.Histories.Runs.{begin, turn}
@@ -85,7 +86,7 @@ tip_never s nodes live made rounds m few (Some p) position z = go (is_on_sheet (
     go true h =
         let f = place_tells s nodes live made rounds m few (Some p) position p refl z h in
         subst (Never OutOfRange) (sym f.1) (granted_so OutOfRange f.0)
-    go false h = subst (Never OutOfRange) (sym (cond-false _ _ _ h)) (other_cause {X = Found} OffSheet Place position OutOfRange (λ e. omega arith))
+    go false h = subst (Never OutOfRange) (sym (cond-true _ _ _ (sized s m.legal) ∙ cond-false _ _ _ h)) (other_cause {X = Found} OffSheet Place position OutOfRange (λ e. omega arith))
 
 -- ---- turn by turn
 
