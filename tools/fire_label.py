@@ -10,8 +10,8 @@ from fire_files import (GOOD, NUMBERS, ODD_WORDS, SMALL, Written, bytes_at_rando
 from fire_runs import Violation, run
 from sheetfile import Refusal, read
 
-USAGE = b"label: usage: label SHEET [TIPS] [--svg FILE] [--stats]\n"
-OVERWRITES = b"label: --svg names a file that is read\n"
+USAGE = b"error: "
+MARK = b"<!-- A picture by label of Vumeskar -->\n"
 
 REFUSED = re.compile(rb"label: refusal (\d+), layer (\d) \((?:file|check|build)\), place (\d+): .+\n")
 
@@ -29,7 +29,8 @@ NO_FILES = [b".", b"missing", b"sheet/x", b"none/x", b"", b"-", b"-x", b"a" * 30
             b"shut", b"\xc3\xa9" * 70, b"c" * 100_000, b"two\nlines", b"\x01\x1b[2J", b"a b"]
 DEVICES = [b"/dev/null", b"/dev/zero", b"/dev/full", b"/proc/self/mem", b"/proc/self/maps"]
 OPTIONS = [b"--svg", b"--stats", b"--stat", b"--svg=x", b"--", b"---", b"--SVG", b"--help", b"-h",
-           b"--stats ", b"--\xff"]
+           b"--stats ", b"--\xff", b"--csv", b"--json", b"--strict", b"-V", b"--version", b"--csv=1"]
+FLAGS = (b"stats", b"csv", b"json", b"strict")
 
 
 def told_lines(data):
@@ -37,8 +38,8 @@ def told_lines(data):
     lines = data.split(b"\n")
     if lines[-1] == b"":
         lines.pop()
-    return sum(not line.startswith(b"#") and (len(line) > 1000 or line.strip(b" \t\r\x0c") != b"")
-               for line in lines)
+    fronts = [line.split(b"#")[0] for line in lines]
+    return sum(len(front) > 1000 or front.strip(b" \t\r\x0c") != b"" for front in fronts)
 
 
 def tip_line(draw, kind):
@@ -90,21 +91,29 @@ def huge_tips(draw, path):
 
 
 def asked(words):
-    """The sheet, the tips, the picture and whether costs are told; None where this is no use of it."""
-    files, svg, stats, words = [], None, False, list(words)
+    """The sheet, the tips, the picture and the flags; None where this is no use of it; `help` where help or the version is
+    asked for, which is told if nothing before it is wrong."""
+    files, svg, flags, words, has_options = [], None, set(), list(words), True
     while words:
         word = words.pop(0)
-        if word == b"--svg":
-            if svg is not None or not words or words[0].startswith(b"--"):
-                return None
-            svg = words.pop(0)
-        elif word == b"--stats" and not stats:
-            stats = True
-        elif word.startswith(b"--") or len(files) == 2:
-            return None
+        name, has_value, value = word[2:].partition(b"=")
+        if has_options and word == b"--":
+            has_options = False
+        elif has_options and (word.startswith((b"-h", b"-V")) or word in (b"--help", b"--version")):
+            return "help"
+        elif has_options and word.startswith(b"--") and name == b"svg":
+            if svg is not None or not has_value and (not words or words[0].startswith(b"-") and words[0] != b"-"):
+                return "help" if {b"-h", b"-V", b"--help", b"--version"} & set(words) else None
+            svg = value if has_value else words.pop(0)
+        elif has_options and word[2:] in FLAGS and word.startswith(b"--") and word[2:] not in flags:
+            flags.add(word[2:])
+        elif has_options and word.startswith(b"-") and word != b"-" or len(files) == 2:
+            return "help" if {b"-h", b"-V", b"--help", b"--version"} & set(words) else None
         else:
             files.append(word)
-    return (*files, None)[:2] + (svg, stats) if files else None
+    if not files or files == [b"-", b"-"] or svg == b"-" or b"csv" in flags and flags & {b"json", b"stats"}:
+        return None
+    return (*files, None)[:2] + (svg, flags)
 
 
 def front(folder, name):
@@ -116,19 +125,18 @@ def front(folder, name):
         return None
 
 
-def can_write(folder, name):
-    if name == b"/dev/full" or name.startswith(b"/proc"):
-        # They are opened, and take nothing.
-        return False
+def can_draw(folder, name):
+    """Whether a picture of this name can be written: nothing is there, or a picture, and a part can be."""
     path = os.path.join(os.fsencode(folder), name) if name else b""
-    there = os.path.exists(path)
+    if os.path.lexists(path) and not (os.path.isfile(path) and not os.path.islink(path)
+                                      and (front(folder, name) or b"").startswith(MARK)):
+        return False
     try:
-        os.close(os.open(path, os.O_WRONLY | os.O_CREAT, 0o644))
+        os.close(os.open(path + b".part" if name else b"", os.O_WRONLY | os.O_CREAT | os.O_EXCL, 0o644))
     except OSError:
         return False
-    if not there:
-        os.remove(path)
-    return True
+    os.remove(path + b".part")
+    return len(os.path.basename(path)) <= 255 and not path.endswith((b"/", b"/."))
 
 
 def words_at_random(draw):
@@ -149,8 +157,9 @@ def words_at_random(draw):
         target = draw.choice((b"picture", b"picture", b"picture", b"picture", b"sheet", b"tips", b".",
                               b"/dev/null", b"/dev/full", draw.choice(NO_FILES)))
         words.insert(draw.randrange(len(words) + 1), [b"--svg", target])
-    if draw.randrange(3) == 0:
-        words.insert(draw.randrange(len(words) + 1), [b"--stats"])
+    for option in (b"--stats", b"--csv", b"--json", b"--strict"):
+        if draw.randrange(5) == 0:
+            words.insert(draw.randrange(len(words) + 1), [option])
     if draw.randrange(20) == 0:
         # An option twice, or a word too many.
         more = draw.choice(([b"--stats"], [b"--svg", b"picture"], [draw.choice(OPTIONS)], [b"tips"]))
@@ -189,7 +198,7 @@ def check_picture(path):
             except expat.ExpatError as error:
                 raise Violation(f"the picture is no XML: {error}") from error
         file.seek(0)
-        if file.read(4) != b"<svg":
+        if file.read(len(MARK)) != MARK:
             raise Violation("the picture does not begin as one")
         file.seek(-7, os.SEEK_END)
         if file.read() != b"</svg>\n":
@@ -232,20 +241,22 @@ class LabelRun:
         self.out = draw.choice(kinds) if draw.randrange(8) == 0 else "read"
         self.err = draw.choice(kinds) if draw.randrange(40) == 0 else "read"
         self.stdin = "closed" if draw.randrange(40) == 0 else "/dev/null"
+        # What is there under the name of the picture is to stay, where it is none.
+        self.before = {name: front(folder, name) for name in (b"sheet", b"tips")}
         self.asked = asked(self.words)
         self.due = self.find_due()
         if self.due == "answer":
             self.find_ends(told)
 
     def find_due(self):
-        """What is due: `usage`, `overwrite`, `failure`, a `refusal` of the file, or an `answer` where no rule is broken."""
+        """What is due: `usage`, `help`, `failure`, a `refusal` of the file, or an `answer` where no rule is broken."""
         if not all(map(is_text, self.words)):
             return "failure"
         if self.asked is None:
             return "usage"
-        if self.asked[2] is not None and self.asked[2] in self.asked[:2]:
-            return "overwrite"
-        data = front(self.folder, self.asked[0])
+        if self.asked == "help":
+            return "help"
+        data = b"" if self.asked[0] == b"-" else front(self.folder, self.asked[0])
         if data is None:
             return "failure"
         self.is_good = data in GOOD
@@ -255,8 +266,8 @@ class LabelRun:
     def find_ends(self, told):
         """Whether all files and the output are in order, and how many lines are due, where it is known."""
         _, tips, svg, _ = self.asked
-        self.can_end = ((svg is None or can_write(self.folder, svg))
-                        and (tips is None or front(self.folder, tips) is not None)
+        self.can_end = ((svg is None or can_draw(self.folder, svg))
+                        and (tips in (None, b"-") or front(self.folder, tips) is not None)
                         and self.out == "read")
         self.told = told if tips == b"tips" else None
         self.lines = len(self.sheet.loops) if tips is None else self.told
@@ -264,7 +275,7 @@ class LabelRun:
     def play(self, program):
         """Runs it; the known fault that was met, or none, and the kind of its end."""
         # Tips without an end are cut off, where the program comes to them.
-        tips = self.asked[1] if self.asked else None
+        tips = self.asked[1] if isinstance(self.asked, tuple) else None
         is_endless = tips in (b"/dev/zero", b"/dev/full")
         seconds = [1] if is_endless else []
         ended = run([program, *self.words], self.folder, self.stdin, self.out, self.err, *seconds)
@@ -274,9 +285,24 @@ class LabelRun:
             ended.check()
             return None, "stopped"
         ended.check()
+        if any(front(self.folder, name) != data for name, data in self.before.items()):
+            raise Violation("a file that is read is not as it was")
         if self.err != "read":
             return None, "unheard"
+        if self.due in ("usage", "help") and ended.status != 1:
+            return self.check_words()
+        if ended.status == 2:
+            raise Violation("its words are told to be wrong, and are not")
         return self.check_granted() if ended.status == 0 else self.check_failed()
+
+    def check_words(self):
+        """What is said of wrong words, or where help is asked for."""
+        said = self.ended.err.head if self.ended.status == 2 else b""
+        if self.due == "usage" and not said.startswith(USAGE):
+            raise Violation("it is not told that its words are wrong")
+        if self.due == "help" and self.ended.status == 0 and self.out == "read" and self.ended.out.bytes == 0:
+            raise Violation("no help is told")
+        return None, "words"
 
     def check_failed(self):
         """What a run that failed has said."""
@@ -285,16 +311,14 @@ class LabelRun:
             if not any(b"\n" in word and is_named(word, said) for word in self.words):
                 raise Violation("a failure is not told in one line that begins `label: `")
             fault = NAME_IN_TWO_LINES
-        if self.due == "usage" and said != USAGE:
-            raise Violation("its use is not told")
-        if self.due == "overwrite" and said != OVERWRITES:
-            raise Violation("it is not told that a file that is read would be drawn over")
+        if self.due == "usage" or self.due == "help" and self.out == "read":
+            raise Violation("its words are not told to be wrong")
         if self.due == "refusal" or said.startswith(b"label: refusal"):
             if self.due not in ("refusal", "answer"):
                 raise Violation(f"a refusal is told, and a {self.due} is due")
             check_refused(said, self.sheet, self.is_good)
             return fault, "refused"
-        if self.due == "answer" and self.can_end:
+        if self.due == "answer" and self.can_end and not (b"strict" in self.asked[3] and b"--strict" in said):
             raise Violation("it failed, and nothing is at fault")
         return fault, "failed"
 
@@ -305,20 +329,29 @@ class LabelRun:
             raise Violation(f"it ended well, and a {self.due} is due")
         if ended.err.bytes:
             raise Violation("it ended well, and told an error")
-        _, _, svg, stats = self.asked
+        _, _, svg, flags = self.asked
         if self.out == "closed" and svg is not None:
             # The picture is opened where the output would be, and both go into it.
             return PICTURE_FOR_OUTPUT, "granted"
         if not self.can_end:
             raise Violation("it ended well, and could not write or read all")
-        if self.lines is not None and ended.out.lines != 4 + self.lines + stats:
-            raise Violation(f"it printed {ended.out.lines} lines, and {4 + self.lines + stats} are due")
-        if self.told is not None:
-            check_counts(ended.out.tail.splitlines(True)[-1], self.told)
+        if self.lines is not None:
+            self.check_lines(flags)
         path = svg and os.path.join(os.fsencode(self.folder), svg)
-        if path and stat.S_ISREG(os.stat(path).st_mode):
+        if path:
             check_picture(path)
         return None, "granted"
+
+    def check_lines(self, flags):
+        """A line for each loop or tip, and those around them."""
+        around = 1 if b"csv" in flags else 4 + (b"stats" in flags)
+        if b"json" in flags:
+            # The head, and the end of the rows, of the counts where there are tips, and of all.
+            around = 4 if self.told is not None else 3
+        if self.ended.out.lines != around + self.lines:
+            raise Violation(f"it printed {self.ended.out.lines} lines, and {around + self.lines} are due")
+        if self.told is not None and not flags & {b"csv", b"json"}:
+            check_counts(self.ended.out.tail.splitlines(True)[-1], self.told)
 
 
 def is_named(word, said):

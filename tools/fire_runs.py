@@ -54,7 +54,7 @@ class Ended:
             raise Violation(f"it was stopped after {self.seconds:.1f} seconds")
         if self.status < 0:
             raise Violation(f"it ended by signal {-self.status}")
-        if self.status not in (0, 1):
+        if self.status not in (0, 1, 2):
             raise Violation(f"its exit status is {self.status}")
 
 

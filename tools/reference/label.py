@@ -1,8 +1,11 @@
-"""What `label` prints, from README.md and docs/REFUSALS.md.
+"""What `label` tells, from docs/LABEL.md and docs/REFUSALS.md.
 
 `printed` gives what it writes to standard output and to standard error, its exit status, and what it draws.
 """
 
+import csv
+import io
+import json
 import os
 import re
 
@@ -77,23 +80,34 @@ def clash(d, refusal):
 # ---- the tips
 
 
+FRACTION = re.compile(rb"(?:[0-9]+[.,/][0-9]*|[.,/][0-9]+)")
+
+
+def no_number(word, position):
+    """What is wrong with a word that spells no whole number."""
+    if FRACTION.fullmatch(word):
+        return f"number {position} is a fraction; write X Y Z for the point (X/Z, Y/Z)"
+    if word.startswith(b"-") and (FRACTION.fullmatch(word[1:]) or re.fullmatch(rb"[0-9]+", word[1:])):
+        return f"number {position} is negative; no tip on a sheet has one below 0"
+    return f"word {position} is not a whole number"
+
+
 def number(word, position, most):
     """The number that a word spells, or what is wrong with it."""
     digits = word[1:] if word.startswith(b"+") else word
     value = 0
     for digit in digits:
         if not 48 <= digit <= 57:
-            return f"word {position} is not a whole number"
+            return no_number(word, position)
         value = 10 * value + digit - 48
         if value > most:
             return f"number {position} is too large; {most} is the most here"
-    return value if digits else f"word {position} is not a whole number"
+    return value if digits else no_number(word, position)
 
 
 def tip_of(text):
     """The tip of a line, None where it has none, or what is wrong with it."""
-    if text.startswith(b"#"):
-        return None
+    text = text.split(b"#")[0]
     if len(text) > MOST_LINE:
         return "it is longer than 1,000 bytes"
     try:
@@ -122,89 +136,140 @@ def counted(count, one, many):
     return f"{count} {one if count == 1 else many}"
 
 
+COLUMNS = ["line", "place", "tip", "kind", "vertex", "second_vertex", "loop", "numeral", "wording", "tests",
+           "refusal", "layer", "refusal_place", "sentence"]
+PART_COLUMNS = ["loop", "numeral", "wording", "corners"]
+
+
 class Label:
-    """A sealed sheet, and what is printed of it."""
+    """A sealed sheet, and what is told of it: rows, the lines of the table, and the marks of the picture."""
 
     def __init__(self, board, sheet):
-        self.board, self.sheet, self.out, self.dots = board, sheet, [], []
+        self.board, self.sheet, self.rows, self.lines, self.marks = board, sheet, [], [], []
         used = {loop.numeral for loop in sheet.loops}
         self.words = {numeral: text.decode("ascii") for numeral, (_, text) in sheet.labels.items() if numeral in used}
         self.room = max([7, *map(len, self.words.values())])
+        self.kinds, self.tests, self.refused, self.bad, self.position = {1: 0, 2: 0, 3: 0}, [], 0, 0, 0
 
-    def cell(self, answer):
-        kind, a, b = answer
-        numeral = self.sheet.loops[a].numeral if kind == 3 else 0
-        name = {1: f"vertex {a}", 2: f"edge {a}-{b}", 3: f"face of loop {a}"}[kind]
-        return name, str(numeral or "-"), self.words.get(numeral, "-") if numeral else "-"
+    def numeral(self, loop):
+        """The numeral of a loop and its wording, each None where there is none."""
+        numeral = self.sheet.loops[loop].numeral or None
+        return numeral, self.words.get(numeral)
 
-    def write_tips(self, tips, stats):
-        """The answers of tips, and their counts."""
-        out, room = self.out, self.room
-        out.append(f"{'tip':<15}  {'cell':<17}  {'numeral':>7}  {'wording':<{room}}  tests")
-        kinds, tests, refused, bad, position = {1: 0, 2: 0, 3: 0}, [], 0, 0, 0
+    def take_tips(self, tips):
+        """The answers of tips."""
         for i, text in enumerate(lines_of(tips), 1):
             tip = tip_of(text)
             if isinstance(tip, str):
-                bad += 1
-                out.append(f"line {i}: {tip}")
+                self.bad += 1
+                self.lines.append(f"{i:>4}      -  bad line: {tip}")
+                self.row(line=i, kind="bad line", sentence=tip)
             elif tip is not None:
-                kernel = "whole" if len(tip) == 2 else "rational"
-                shown = " ".join(map(str, tip))
-                found = self.board.place(kernel, tip if len(tip) == 3 else (*tip, 1))
-                if isinstance(found, Refusal):
-                    refused += 1
-                    out.append(f"{shown:<15}  {told(found, position)}")
-                else:
-                    answer, count = found
-                    kinds[answer[0]] += 1
-                    tests.append(count)
-                    name, numeral, words = self.cell(answer)
-                    beside = next((it for it in (words, numeral) if it != "-"), None)
-                    self.dots.append((tip, answer[0], f"{shown}: {name}, {count} tests", beside))
-                    out.append(f"{shown:<15}  {name:<17}  {numeral:>7}  {words:<{room}}  {count:>5}")
-                position += 1
-        if stats:
-            self.write_cost(tests)
-        out.append(f"{counted(position, 'tip', 'tips')}: {counted(kinds[3], 'in a face', 'in faces')}, "
-                   f"{counted(kinds[2], 'on an edge', 'on edges')}, {counted(kinds[1], 'at a vertex', 'at vertices')}, "
-                   f"{refused} refused; {counted(bad, 'bad line', 'bad lines')}")
+                self.take_tip(i, tip)
+                self.position += 1
 
-    def write_cost(self, tests):
-        mean = "-"
+    def row(self, **told):
+        self.rows.append([told.get(name) for name in COLUMNS])
+
+    def take_tip(self, line, tip):
+        kernel = "whole" if len(tip) == 2 else "rational"
+        shown, place = " ".join(map(str, tip)), self.position
+        point = tip if len(tip) == 3 else (*tip, 1)
+        found = self.board.place(kernel, point)
+        front = f"{line:>4}  {place:>5}  {shown:<15}  "
+        if isinstance(found, Refusal):
+            self.refused += 1
+            self.lines.append(front + told(found, place))
+            self.row(line=line, place=place, tip=shown, kind="refused", refusal=found.number, layer=found.layer,
+                     refusal_place=place, sentence=SENTENCES[found.number])
+            if found.number == 26:
+                self.marks.append((point, 0, f"line {line}, {shown}: {told(found, place)}", "refused 26"))
+            return
+        (kind, a, b), count = found
+        self.kinds[kind] += 1
+        self.tests.append(count)
+        name = {1: f"vertex {a}", 2: f"edge {a}-{b}", 3: f"face of loop {a}"}[kind]
+        numeral, words = self.numeral(a) if kind == 3 else (None, None)
+        self.lines.append(f"{front}{name:<17}  {numeral or '-':>7}  {words or '-':<{self.room}}  {count:>5}")
+        cell = {1: {"kind": "vertex", "vertex": a}, 2: {"kind": "edge", "vertex": a, "second_vertex": b},
+                3: {"kind": "face", "loop": a}}[kind]
+        self.row(line=line, place=place, tip=shown, numeral=numeral, wording=words, tests=count, **cell)
+        self.marks.append((point, kind, f"line {line}, {shown}: {name}, {count} tests", a if kind == 3 else name))
+
+    def take_parts(self):
+        """The parts list."""
+        for i, loop in enumerate(self.sheet.loops):
+            numeral, words = self.numeral(i)
+            corners = " ".join(str(a) for a, _ in self.sheet.edges[loop.start:loop.start + loop.corners])
+            self.lines.append(f"{i:>4}  {numeral or '-':>7}  {words or '-':<{self.room}}  {corners}")
+            self.rows.append([i, numeral, words, corners])
+
+    def table(self, has_tips, stats):
+        """All lines of the table."""
+        sheet = self.sheet
+        out = [f"sheet {sheet.width} x {sheet.height}: {sheet.inner} inner vertices, {len(sheet.loops)} loops, "
+               f"{sheet.corners} corners"]
+        if not has_tips:
+            out.append("in order: it keeps the eight rules")
+        out.append(f"layered: {len(self.board.nodes)} nodes in {self.board.rounds} rounds")
+        if has_tips:
+            out.append(f"line  place  {'tip':<15}  {'cell':<17}  numeral  {'wording':<{self.room}}  tests")
+        else:
+            out.append(f"loop  numeral  {'wording':<{self.room}}  corners")
+        out += self.lines
+        if stats:
+            out.append(self.cost())
+        if has_tips:
+            out.append(f"{counted(self.position, 'tip', 'tips')}: {counted(self.kinds[3], 'in a face', 'in faces')}, "
+                       f"{counted(self.kinds[2], 'on an edge', 'on edges')}, "
+                       f"{counted(self.kinds[1], 'at a vertex', 'at vertices')}, "
+                       f"{self.refused} refused; {counted(self.bad, 'bad line', 'bad lines')}")
+        return "\n".join(out) + "\n"
+
+    def cost(self):
+        tests, mean = self.tests, "-"
         if tests:
             hundredths = (100 * sum(tests) + len(tests) // 2) // len(tests)
             mean = f"{hundredths // 100}.{hundredths % 100:02}"
-        self.out.append(f"nodes {len(self.board.nodes)}, rounds {self.board.rounds}, "
-                        f"worst tests {max(tests, default='-')}, mean tests {mean}")
+        return (f"nodes {len(self.board.nodes)}, rounds {self.board.rounds}, "
+                f"worst tests {max(tests, default='-')}, mean tests {mean}")
 
-    def write_parts(self, stats):
-        self.out.append("in order: it keeps the eight rules")
-        self.write_layers()
-        self.out.append(f"{'loop':>4}  {'numeral':>7}  {'wording':<{self.room}}  corners")
-        for i, loop in enumerate(self.sheet.loops):
-            _, numeral, words = self.cell((3, i, 0))
-            corners = " ".join(str(a) for a, _ in self.sheet.edges[loop.start:loop.start + loop.corners])
-            self.out.append(f"{i:>4}  {numeral:>7}  {words:<{self.room}}  {corners}")
-        if stats:
-            self.write_cost([])
+    def csv(self, has_tips):
+        out = io.StringIO()
+        writer = csv.writer(out, lineterminator="\n")
+        writer.writerow(COLUMNS if has_tips else PART_COLUMNS)
+        writer.writerows(self.rows)
+        return out.getvalue()
 
-    def write_layers(self):
-        self.out.append(f"layered: {len(self.board.nodes)} nodes in {self.board.rounds} rounds")
-
+    def json(self, has_tips):
+        """The document as it is parsed."""
+        sheet = self.sheet
+        names = COLUMNS if has_tips else PART_COLUMNS
+        document = {"sheet": {"width": sheet.width, "height": sheet.height, "inner_vertices": sheet.inner,
+                              "loops": len(sheet.loops), "corners": sheet.corners, "nodes": len(self.board.nodes),
+                              "rounds": self.board.rounds},
+                    "tips" if has_tips else "loops": [dict(zip(names, row)) for row in self.rows]}
+        if has_tips:
+            document["counts"] = {"tips": self.position, "in_faces": self.kinds[3], "on_edges": self.kinds[2],
+                                  "at_vertices": self.kinds[1], "refused": self.refused, "bad_lines": self.bad,
+                                  "all_tests": sum(self.tests), "worst_tests": max(self.tests, default=0)}
+        return json.dumps(document)
 
     def drawn(self):
-        """What the picture shows, with heights from the top: faces, edges, and of each answered tip its
-        place, the kind of its answer, its title, and its wording, or else its numeral, where it has one."""
-        top = self.sheet.height
-        at = [(x, top - y) for x, y in self.sheet.points]
-        faces = [[at[a] for a, _ in self.sheet.edges[loop.start:loop.start + loop.corners]] for loop in self.sheet.loops]
-        edges = sorted({tuple(sorted((at[a], at[b]))) for a, b in self.sheet.edges})
-        dots = []
-        for (x, y, *z), kind, title, beside in self.dots:
-            z = z[0] if z else 1
-            place = [f"{t // 1000}.{t % 1000:03}" for t in ((1000 * v + z // 2) // z for v in (x, top * z - y))]
-            dots.append((*place, kind, title, beside))
-        return faces, edges, dots
+        """What the picture shows, in pixels from its left and its top: faces, edges, marks, and of each face with a
+        numeral its number, its words, and the pixels of the tips in it; the board to ask of other points."""
+        longer, height = max(self.sheet.width, self.sheet.height), self.sheet.height
+
+        def at(x, y, z=1):
+            unit = z * longer
+            left, top = 1000 * x + 125 * unit, max(1000 * height * z + 125 * unit - 1000 * y, 0)
+            return tuple(f"{t // 100}.{t % 100:02}" for t in ((100 * v + unit // 2) // unit for v in (left, top)))
+
+        points = [at(x, y) for x, y in self.sheet.points]
+        faces = [[points[a] for a, _ in self.sheet.edges[loop.start:loop.start + loop.corners]] for loop in self.sheet.loops]
+        edges = sorted({tuple(sorted((points[a], points[b]))) for a, b in self.sheet.edges})
+        marks = [(kind, title, at(*point)) for point, kind, title, _ in self.marks]
+        return faces, edges, marks
 
 
 def sealed(data):
@@ -217,19 +282,20 @@ def sealed(data):
     return board, refusal
 
 
-def printed(data, tips=None, stats=False):
-    """What is printed, and the status; and what is drawn, or None."""
+def printed(data, tips=None, form="table", stats=False, strict=False):
+    """What is printed, and the status; and the Label, or None."""
     board, refusal = sealed(data)
     if refusal is not None:
         words = clash(drawing(*board.held()), refusal) if refusal.layer == 2 else ""
         return ("", f"label: {told(refusal)}{words}\n", 1), None
-    sheet = read(data)
-    label = Label(board, sheet)
-    label.out.append(f"sheet {sheet.width} x {sheet.height}: {sheet.inner} inner vertices, {len(sheet.loops)} loops, "
-                     f"{sheet.corners} corners")
+    label = Label(board, read(data))
     if tips is None:
-        label.write_parts(stats)
+        label.take_parts()
     else:
-        label.write_layers()
-        label.write_tips(tips, stats)
-    return ("\n".join(label.out) + "\n", "", 0), label.drawn()
+        label.take_tips(tips)
+    has_tips = tips is not None
+    said = {"table": lambda: label.table(has_tips, stats), "csv": lambda: label.csv(has_tips),
+            "json": lambda: label.json(has_tips)}[form]()
+    if strict and label.refused + label.bad > 0:
+        return (said, f"label: {label.refused} refused, {label.bad} bad: status 1, since --strict is given\n", 1), label
+    return (said, "", 0), label

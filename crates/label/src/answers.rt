@@ -1,26 +1,28 @@
-//! The answers of tips: a line for each, and a dot in the picture.
+//! The answers of tips: a row for each, and a mark in the picture.
 use crate::failure::{Failure, named};
 use crate::list::TipList;
-use crate::picture::{Dot, Picture, Spot};
-use crate::sealed::{Cell, Numeral, Sealed};
+use crate::marks::{Dot, Spot};
+use crate::picture::Picture;
+use crate::sealed::Sealed;
 use crate::tally::Tally;
-use crate::tips::{LineError, next_line, read_tip};
+use crate::teller::{At, Shown, Teller};
+use crate::tip::Tip;
+use crate::tips::{next_line, read_tip};
 use nodes::ReadStore;
 use refusal::Refusal;
 use std::alloc::Global;
-use std::io;
 use std::io::{BufRead, Write};
 use walk::Found;
 
-/// Where the answers go: to a writer line by line, into a picture where one is wanted, and into the counts.
+/// Where the answers go: to a teller row by row, into a picture where one is wanted, and into the counts.
 #[derive(Drop)]
-pub(crate) struct Report<W, P> {
-    pub(crate) out: W,
+pub(crate) struct Report<W: Write + Drop, P> {
+    pub(crate) out: Teller<W>,
     pub(crate) picture: Option<Picture<P>>,
     pub(crate) tally: Tally,
 }
 
-impl<W: Write, P: Write> Report<W, P> {
+impl<W: Write + Drop, P: Write> Report<W, P> {
     /// Answers the tips of a file in lists, in the order of the file, and keeps no more of them than a list holds.
     pub(crate) fn answer_all<S: ReadStore, R: BufRead>(
         &mut self,
@@ -42,7 +44,7 @@ impl<W: Write, P: Write> Report<W, P> {
                 }
             }
         }
-        Ok(self.flush(heap, sealed, &mut list)?)
+        self.flush(heap, sealed, &mut list)
     }
 
     // Gathers the tip of a line, where it has one. A bad line is told after the tips before it, so it ends their list.
@@ -53,11 +55,11 @@ impl<W: Write, P: Write> Report<W, P> {
         list: &mut TipList,
         number: u64,
         line: &[u8],
-    ) -> anyhow::Result<()> {
+    ) -> Result<(), Failure> {
         match read_tip(line) {
             Ok(None) => Ok(()),
             Ok(Some(tip)) => {
-                list.push(tip)?;
+                list.push(tip, number)?;
                 if list.is_full() {
                     self.flush(heap, sealed, list)?;
                 }
@@ -65,7 +67,8 @@ impl<W: Write, P: Write> Report<W, P> {
             }
             Err(error) => {
                 self.flush(heap, sealed, list)?;
-                Ok(self.tell_bad_line(number, error)?)
+                self.tally.bad_line();
+                self.out.tell_bad_line(heap, number, error)
             }
         }
     }
@@ -76,71 +79,83 @@ impl<W: Write, P: Write> Report<W, P> {
         heap: Global,
         sealed: &mut Sealed<S>,
         list: &mut TipList,
-    ) -> anyhow::Result<()> {
+    ) -> Result<(), Failure> {
         list.answer(sealed);
-        for (tip, answer) in list.tips.iter().zip(list.answers.iter()) {
+        let mut place = list.earlier as u64;
+        let asked = list.tips.iter().zip(list.lines.iter());
+        for ((tip, line), answer) in asked.zip(list.answers.iter()) {
             // As text, since what prints a tip takes no width.
             let text = format!(in heap; "{tip}")?;
+            let at = At {
+                line: *line,
+                place,
+                tip: text.as_str(),
+            };
             match *answer {
-                Ok(found) => self.tell(heap, sealed, text.as_str(), Spot::from(*tip), found)?,
-                Err(refusal) => self.tell_refused(text.as_str(), list.in_file(refusal))?,
+                Ok(found) => self.tell(heap, sealed, at, *tip, found)?,
+                Err(refusal) => self.tell_refused(heap, at, *tip, list.in_file(refusal))?,
             }
+            place = place.saturating_add(1);
         }
         list.clear();
         Ok(())
     }
 
     // The columns' names. No more tips are held than a list has, so the columns are as wide as most tips and all cells and wordings need.
-    fn write_head<S: ReadStore>(&mut self, sealed: &Sealed<S>) -> io::Result<()> {
+    fn write_head<S: ReadStore>(&mut self, sealed: &Sealed<S>) -> Result<(), Failure> {
         let room = sealed.wordings.room;
-        writeln!(
-            self.out,
-            "{:<15}  {:<17}  {:>7}  {:<room$}  tests",
-            "tip", "cell", "numeral", "wording"
-        )
+        match &mut self.out {
+            Teller::Table(out) => Ok(writeln!(
+                out,
+                "{:>4}  {:>5}  {:<15}  {:<17}  {:>7}  {:<room$}  tests",
+                "line", "place", "tip", "cell", "numeral", "wording"
+            )?),
+            _ => Ok(()),
+        }
     }
 
     fn tell<S: ReadStore>(
         &mut self,
         heap: Global,
         sealed: &Sealed<S>,
-        tip: &str,
-        spot: Spot,
+        at: At<'_>,
+        tip: Tip,
         found: Found,
-    ) -> anyhow::Result<()> {
+    ) -> Result<(), Failure> {
         self.tally.answered(found);
-        let room = sealed.wordings.room;
-        let cell = format!(in heap; "{}", Cell(found.answer))?;
-        let cell = cell.as_str();
         let numeral = sealed.numeral(found.answer);
-        let wording = sealed.wording(numeral);
-        let shown = wording.unwrap_or("-");
-        let number = Numeral(numeral);
-        let tests = found.tests;
-        writeln!(
-            self.out,
-            "{tip:<15}  {cell:<17}  {number:>7}  {shown:<room$}  {tests:>5}"
-        )?;
+        let shown = Shown {
+            numeral,
+            wording: sealed.wording(numeral),
+            room: sealed.wordings.room,
+        };
+        self.out.tell(heap, at, found, shown)?;
         let Some(picture) = &mut self.picture else {
             return Ok(());
         };
-        let dot = Dot {
-            tip,
-            spot,
-            found,
-            numeral,
-            wording,
-        };
-        Ok(picture.draw(&dot)?)
+        picture.draw(&Dot {
+            at,
+            spot: Spot::from(tip),
+            told: Ok(found),
+        })
     }
 
-    fn tell_refused(&mut self, tip: &str, refusal: Refusal) -> io::Result<()> {
+    fn tell_refused(
+        &mut self,
+        heap: Global,
+        at: At<'_>,
+        tip: Tip,
+        refusal: Refusal,
+    ) -> Result<(), Failure> {
         self.tally.refused();
-        writeln!(self.out, "{tip:<15}  {refusal}")
-    }
-
-    fn tell_bad_line(&mut self, number: u64, error: LineError) -> io::Result<()> {
-        self.tally.bad_line();
-        writeln!(self.out, "line {number}: {error}")
+        self.out.tell_refused(heap, at, refusal)?;
+        let Some(picture) = &mut self.picture else {
+            return Ok(());
+        };
+        picture.draw(&Dot {
+            at,
+            spot: Spot::from(tip),
+            told: Err(refusal),
+        })
     }
 }

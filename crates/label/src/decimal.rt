@@ -7,27 +7,16 @@ pub(crate) struct Hundredths(pub(crate) u64, pub(crate) u64);
 
 impl fmt::Display for Hundredths {
     fn fmt<W: fmt::Write>(&self, f: &mut fmt::Formatter<W>) -> fmt::Result {
-        let parts = rounded(self.0, self.1, 100);
+        let parts = rounded(self.0, self.1);
         write!(f, "{}.{:02}", parts / 100, parts % 100)
     }
 }
 
-/// A quotient with three decimals, the last one rounded.
-#[derive(Clone, Copy)]
-pub(crate) struct Thousandths(pub(crate) u64, pub(crate) u64);
-
-impl fmt::Display for Thousandths {
-    fn fmt<W: fmt::Write>(&self, f: &mut fmt::Formatter<W>) -> fmt::Result {
-        let parts = rounded(self.0, self.1, 1000);
-        write!(f, "{}.{:03}", parts / 1000, parts % 1000)
-    }
-}
-
-// How many of so many parts of one a quotient is; by 0 is as by 1.
+// How many hundredths a quotient is; by 0 is as by 1.
 // No sheet and no count of tests comes near the numbers that would not fit, so these may end at the largest.
-fn rounded(top: u64, bottom: u64, of_one: u64) -> u64 {
+fn rounded(top: u64, bottom: u64) -> u64 {
     let bottom = bottom.max(1);
-    top.saturating_mul(of_one).saturating_add(bottom / 2) / bottom
+    top.saturating_mul(100).saturating_add(bottom / 2) / bottom
 }
 
 #[cfg(test)]
@@ -38,17 +27,13 @@ mod tests {
     #[test]
     fn quotients_are_rounded(rt: HostRuntime) -> Result<(), Fail> {
         for (top, bottom, told) in [
-            (101, 20, "5.05 5.050"),
-            (1, 200, "0.01 0.005"),
-            (2, 3, "0.67 0.667"),
-            (0, 7, "0.00 0.000"),
-            (7, 0, "7.00 7.000"),
+            (101, 20, "5.05"),
+            (1, 200, "0.01"),
+            (2, 3, "0.67"),
+            (0, 7, "0.00"),
+            (7, 0, "7.00"),
         ] {
-            let said = format!(in rt.alloc();
-                "{} {}",
-                Hundredths(top, bottom),
-                Thousandths(top, bottom)
-            )?;
+            let said = format!(in rt.alloc(); "{}", Hundredths(top, bottom))?;
             assert_eq!(rt; said.as_str(), told);
         }
         Ok(())

@@ -14,9 +14,11 @@ const MOST_TIPS: usize = 1024;
 #[derive(Drop)]
 pub(crate) struct TipList {
     pub(crate) tips: Vec<Tip>,
+    /// The line of each tip in the file, counted from 1.
+    pub(crate) lines: Vec<u64>,
     pub(crate) answers: Vec<Result<Found, Refusal>>,
-    // How many tips of the file earlier lists held.
-    earlier: usize,
+    /// How many tips of the file earlier lists held.
+    pub(crate) earlier: usize,
 }
 
 impl TipList {
@@ -28,13 +30,15 @@ impl TipList {
         };
         Ok(TipList {
             tips: Vec::with_capacity(heap, MOST_TIPS)?,
+            lines: Vec::with_capacity(heap, MOST_TIPS)?,
             answers: vec![in heap; Ok(unasked); MOST_TIPS]?,
             earlier: 0,
         })
     }
 
-    /// Adds a tip at the end.
-    pub(crate) fn push(&mut self, tip: Tip) -> Result<(), AllocError> {
+    /// Adds the tip of a line at the end.
+    pub(crate) fn push(&mut self, tip: Tip, line: u64) -> Result<(), AllocError> {
+        self.lines.push(line)?;
         self.tips.push(tip)?;
         Ok(())
     }
@@ -56,6 +60,7 @@ impl TipList {
     pub(crate) fn clear(&mut self) {
         self.earlier = self.earlier.saturating_add(self.tips.len());
         self.tips.clear();
+        self.lines.clear();
     }
 
     /// A refusal of this list as it is printed: the place of a tip that is refused is its position among all tips of the file, counted from 0.
@@ -82,7 +87,7 @@ mod tests {
         let tip = Tip::make(Point { x: 6, y: 5 }).ok_or("too far")?;
         for _ in 0..MOST_TIPS {
             assert!(rt; !list.is_full());
-            list.push(tip)?;
+            list.push(tip, 7)?;
         }
         assert!(rt; list.is_full());
         list.clear();
@@ -99,7 +104,7 @@ mod tests {
             };
             assert_eq!(rt; list.in_file(refusal).place, place);
         }
-        list.push(tip)?;
+        list.push(tip, 7)?;
         list.clear();
         let third = Refusal::new(Cause::OffSheet, Layer::Place, 3);
         assert_eq!(rt; list.in_file(third).place, 1028);

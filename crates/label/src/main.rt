@@ -1,37 +1,46 @@
-//! Reads a sheet file, checks the sheet and builds its hierarchy; prints its parts list, or answers the tips of a file; and draws it where asked.
+//! Reads a sheet file, checks the sheet and builds its hierarchy; tells its parts list, or the answers of the tips of a file; and draws it where asked.
 #![tactic(auto)]
 
+mod anchors;
 mod answers;
 mod args;
 mod broken;
 mod decimal;
+mod document;
 mod failure;
+mod frame;
+mod labels;
+mod layout;
 mod list;
+mod marks;
+mod new_file;
 mod parts;
 mod picture;
 mod sealed;
 mod tally;
+mod teller;
+mod tints;
 mod tip;
 mod tips;
 mod wordings;
 
 use answers::Report;
-use anyhow::anyhow;
-use args::{Asked, OVERWRITES, USAGE, read_words};
+use args::{Asked, INPUT, read_words};
 use broken::clash_words;
 use desk::{Desk, LEAST};
 use failure::{Failure, named};
+use new_file::NewFile;
 use nodes::{Node, ReadStore, SliceStore, WriteStore};
 use parts::write_parts;
 use picture::Picture;
 use refusal::Refusal;
 use sealed::Sealed;
 use std::alloc::Global;
-use std::fs::File;
-use std::io::{BufReader, BufWriter, Read, Write};
+use std::io::{BufRead, BufReader, BufWriter, Read, Write};
 use std::process::ExitCode;
 use std::{env, fs, io};
-use tally::{Cost, Tally};
+use tally::Tally;
+use teller::Teller;
 use wordings::Wordings;
 
 // One byte more than the largest sheet file has: a longer file is seen to be one, and is never read whole.
@@ -40,22 +49,15 @@ const MOST: u64 = 39_261;
 // The most nodes that a sheet can have: 2,050 at the bottom, and 6 for each of 1,024 vertices taken out.
 const MOST_NODES: usize = 8194;
 
-// What the program's arguments ask for.
-fn read_arguments(rt: &HostRuntime) -> anyhow::Result<Asked> {
-    let mut words = env::args(rt)?;
-    let _ = words.next();
-    match read_words(words) {
-        Some(asked) if asked.would_overwrite() => Err(anyhow!(OVERWRITES)),
-        Some(asked) => Ok(asked),
-        None => Err(anyhow!(USAGE)),
-    }
-}
-
-// The first bytes of a file: all of them, where it is no larger than a sheet file can be.
+// The first bytes of a file, or of standard input: all of them, where it is no larger than a sheet file can be.
 fn read_file(rt: &HostRuntime, path: &str) -> io::Result<Vec<u8>> {
     let mut bytes = Vec::new(rt.alloc());
-    let file = fs::open(rt, path)?;
-    let _ = file.take(MOST).read_to_end(&mut bytes)?;
+    if path == INPUT {
+        let _ = rt.stdin().take(MOST).read_to_end(&mut bytes)?;
+    } else {
+        let file = fs::open(rt, path)?;
+        let _ = file.take(MOST).read_to_end(&mut bytes)?;
+    }
     Ok(bytes)
 }
 
@@ -88,95 +90,107 @@ fn take<S: WriteStore>(
     Err(Failure::Refused(refusal, words))
 }
 
-// A new picture file, with the sheet drawn in it.
-fn begin_picture<S: ReadStore>(
-    rt: &HostRuntime,
-    path: &str,
-    sealed: &Sealed<S>,
-) -> io::Result<Picture<BufWriter<File>>> {
-    let file = BufWriter::new(rt.alloc(), fs::create(rt, path)?)?;
-    Picture::begin(file, sealed)
-}
-
-// The tips of a file, as they will be read.
-fn open_tips(rt: &HostRuntime, path: &str) -> Result<BufReader<File>, Failure> {
-    let file = named(rt.alloc(), path, fs::open(rt, path))?;
-    Ok(BufReader::new(rt.alloc(), file)?)
-}
-
-// Prints and draws what is asked for.
+// Tells and draws what is asked for.
 fn carry_out<S: ReadStore>(
     rt: &HostRuntime,
-    asked: &Asked,
+    asked: &Asked<'_>,
     sealed: &mut Sealed<S>,
-) -> Result<(), Failure> {
+) -> Result<Tally, Failure> {
     let heap = rt.alloc();
-    let mut out = BufWriter::new(heap, io::writer(rt))?;
+    let mut out = Teller::new(asked.form, BufWriter::new(heap, io::writer(rt))?);
     // It fails where standard output is closed, before the picture's file would take its place.
-    sealed.write_size(&mut out)?;
+    document::begin(heap, &mut out, sealed, asked.tips.is_some())?;
     out.flush()?;
-    // Before a picture is begun that could not be ended without them.
-    let tips = match &asked.tips {
-        None => None,
-        Some(path) => Some((path.as_str(), open_tips(rt, path.as_str())?)),
-    };
-    let picture = match &asked.svg {
-        None => None,
-        Some(path) => {
-            let path = path.as_str();
-            Some(named(heap, path, begin_picture(rt, path, sealed))?)
+    // The tips are opened before a picture is begun that could not be ended without them.
+    match asked.tips {
+        None => {
+            let mut tips: &[u8] = &[];
+            tell(rt, asked, sealed, out, &mut tips)
         }
+        Some(INPUT) => {
+            let mut tips = BufReader::new(heap, rt.stdin())?;
+            tell(rt, asked, sealed, out, &mut tips)
+        }
+        Some(path) => {
+            let file = named(heap, path, fs::open(rt, path))?;
+            let mut tips = BufReader::new(heap, file)?;
+            tell(rt, asked, sealed, out, &mut tips)
+        }
+    }
+}
+
+// The same of tips that are open. The picture takes its name when it is whole, and is removed where something fails.
+fn tell<S: ReadStore, W: Write + Drop, R: BufRead>(
+    rt: &HostRuntime,
+    asked: &Asked<'_>,
+    sealed: &mut Sealed<S>,
+    out: Teller<W>,
+    tips: &mut R,
+) -> Result<Tally, Failure> {
+    let heap = rt.alloc();
+    let Some(path) = asked.svg else {
+        let (tally, _) = write_all(heap, asked, sealed, out, None::<Vec<u8>>, tips)?;
+        return Ok(tally);
+    };
+    let (new, file) = NewFile::begin(rt, path)?;
+    match write_all(heap, asked, sealed, out, Some(file), tips) {
+        Ok((tally, Some(file))) => {
+            new.keep(rt, file)?;
+            Ok(tally)
+        }
+        Ok((tally, None)) => {
+            new.give_up(rt);
+            Ok(tally)
+        }
+        Err(failure) => {
+            new.give_up(rt);
+            Err(failure)
+        }
+    }
+}
+
+// Tells all that is asked for, and draws it into a file where there is one, which is given back.
+fn write_all<S: ReadStore, W: Write + Drop, P: Write + Drop, R: BufRead>(
+    heap: Global,
+    asked: &Asked<'_>,
+    sealed: &mut Sealed<S>,
+    out: Teller<W>,
+    file: Option<P>,
+    tips: &mut R,
+) -> Result<(Tally, Option<P>), Failure> {
+    let picture = match file {
+        None => None,
+        Some(file) => Some(Picture::begin(heap, file, sealed)?),
     };
     let mut report = Report {
         out,
         picture,
         tally: Tally::default(),
     };
-    match tips {
-        None => write_parts(&mut report.out, sealed)?,
-        Some((path, mut tips)) => {
-            sealed.write_layers(&mut report.out)?;
-            report.answer_all(heap, sealed, path, &mut tips)?;
-        }
+    let has_tips = asked.tips.is_some();
+    document::write_layers(&mut report.out, sealed, has_tips)?;
+    match asked.tips {
+        None => write_parts(heap, &mut report.out, sealed)?,
+        Some(path) => report.answer_all(heap, sealed, path, tips)?,
     }
-    Ok(end(asked, sealed, report)?)
-}
-
-// Ends what is printed and drawn.
-fn end<S: ReadStore, W: Write + Drop, P: Write + Drop>(
-    asked: &Asked,
-    sealed: &Sealed<S>,
-    report: Report<W, P>,
-) -> anyhow::Result<()> {
     let Report {
         mut out,
         picture,
         tally,
     } = report;
-    if asked.stats {
-        let nodes = sealed.store.count();
-        let rounds = sealed.desk.rounds();
-        let cost = Cost(tally);
-        writeln!(out, "nodes {nodes}, rounds {rounds}, {cost}")?;
-    }
-    if asked.tips.is_some() {
-        writeln!(out, "{tally}")?;
-    }
-    out.flush()?;
-    if let Some(mut picture) = picture {
-        if asked.tips.is_some() {
-            picture.write_legend()?;
-        }
-        picture.end()?;
-    }
-    Ok(())
+    document::end(heap, &mut out, sealed, tally, has_tips, asked.stats)?;
+    let Some(picture) = picture else {
+        return Ok((tally, None));
+    };
+    let counts = if has_tips { Some(tally) } else { None };
+    let file = picture.end(heap, sealed, counts)?;
+    Ok((tally, Some(file)))
 }
 
 // Takes the sheet, and tells what is asked of it.
-fn run(rt: &HostRuntime) -> Result<(), Failure> {
+fn run(rt: &HostRuntime, asked: &Asked<'_>) -> Result<(), Failure> {
     let heap = rt.alloc();
-    let asked = read_arguments(rt)?;
-    let path = asked.sheet.as_str();
+    let path = asked.sheet;
     let file = named(heap, path, read_file(rt, path))?;
     let mut desk = Desk::new(heap, LEAST)?;
     let mut slots = vec![in heap; Node::default(); MOST_NODES]?;
@@ -188,13 +202,35 @@ fn run(rt: &HostRuntime) -> Result<(), Failure> {
         store,
         wordings,
     };
-    carry_out(rt, &asked, &mut sealed)?;
+    let tally = carry_out(rt, asked, &mut sealed)?;
+    if asked.strict && (tally.refused > 0 || tally.bad_lines > 0) {
+        return Err(Failure::Strict(tally.refused, tally.bad_lines));
+    }
     Ok(())
+}
+
+// The words that are given to the program, its own name first.
+fn given(rt: &HostRuntime) -> Result<Vec<String>, Failure> {
+    let words = env::args(rt)?;
+    Ok(words.collect(rt.alloc())?)
+}
+
+// The status of wrong words, or of help, which are told as the parser tells them.
+fn tell_words(rt: &HostRuntime, error: &clap::Error) -> anyhow::Result<ExitCode> {
+    error.print(rt)?;
+    Ok(ExitCode::from(if error.use_stderr() { 2 } else { 0 }))
 }
 
 // A failure is told in one line. It ends the program with status 1, and not with an `Err`, which would be printed once more.
 fn main(rt: HostRuntime) -> anyhow::Result<ExitCode> {
-    let Err(failure) = run(&rt) else {
+    let outcome = match given(&rt) {
+        Err(failure) => Err(failure),
+        Ok(words) => match read_words(rt.alloc(), words.as_slice()) {
+            Err(error) => return tell_words(&rt, &error),
+            Ok(asked) => run(&rt, &asked),
+        },
+    };
+    let Err(failure) = outcome else {
         return Ok(ExitCode::SUCCESS);
     };
     eprintln!(rt; "label: {failure}")?;

@@ -1,33 +1,61 @@
 //! The parts list of a sheet.
+use crate::failure::Failure;
 use crate::sealed::{Numeral, Sealed};
+use crate::teller::Teller;
 use nodes::ReadStore;
 use plane::Edge;
 use rules::loop_edges;
+use serde::Serialize;
+use std::alloc::Global;
+use std::fmt;
 use std::io::Write;
-use std::{fmt, io};
 
-/// Writes that a sheet is in order, how it is layered, and a line for each loop.
-pub(crate) fn write_parts<S: ReadStore, W: Write>(
-    out: &mut W,
+/// The names of a part's fields.
+pub(crate) const COLUMNS: [&str; 4] = ["loop", "numeral", "wording", "corners"];
+
+#[derive(Drop, Serialize)]
+struct Part<'a> {
+    #[serde(rename = "loop")]
+    ring: u16,
+    numeral: Option<u16>,
+    wording: Option<&'a str>,
+    corners: &'a str,
+}
+
+/// Writes a line for each loop.
+pub(crate) fn write_parts<S: ReadStore, W: Write + Drop>(
+    heap: Global,
+    out: &mut Teller<W>,
     sealed: &Sealed<S>,
-) -> io::Result<()> {
-    writeln!(out, "in order: it keeps the eight rules")?;
-    sealed.write_layers(out)?;
+) -> Result<(), Failure> {
     let room = sealed.wordings.room;
-    writeln!(
-        out,
-        "{:>4}  {:>7}  {:<room$}  corners",
-        "loop", "numeral", "wording"
-    )?;
-    let loops = 0..sealed.desk.size().loops;
-    for (number, entry) in loops.zip(sealed.desk.loops.iter()) {
-        let numeral = entry.some_numeral();
-        let wording = sealed.wording(numeral).unwrap_or("-");
-        let numeral = Numeral(numeral);
-        let corners = Corners(loop_edges(sealed.desk.edges.as_slice(), entry));
+    if let Teller::Table(out) = out {
         writeln!(
             out,
-            "{number:>4}  {numeral:>7}  {wording:<room$}  {corners}"
+            "{:>4}  {:>7}  {:<room$}  corners",
+            "loop", "numeral", "wording"
+        )?;
+    }
+    let loops = 0..sealed.desk.size().loops;
+    for (ring, entry) in loops.zip(sealed.desk.loops.iter()) {
+        let numeral = entry.some_numeral();
+        let wording = sealed.wording(numeral);
+        let corners = Corners(loop_edges(sealed.desk.edges.as_slice(), entry));
+        let corners = format!(in heap; "{corners}")?;
+        let corners = corners.as_str();
+        if let Teller::Table(out) = out {
+            let numeral = Numeral(numeral);
+            let wording = wording.unwrap_or("-");
+            writeln!(out, "{ring:>4}  {numeral:>7}  {wording:<room$}  {corners}")?;
+        }
+        out.write_row(
+            heap,
+            &Part {
+                ring,
+                numeral,
+                wording,
+                corners,
+            },
         )?;
     }
     Ok(())

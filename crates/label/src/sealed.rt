@@ -7,9 +7,8 @@ use crate::wordings::Wordings;
 use desk::Desk;
 use nodes::ReadStore;
 use refusal::Refusal;
-use sheet::{Answer, Size};
-use std::io::Write;
-use std::{fmt, io};
+use sheet::Answer;
+use std::fmt;
 use walk::Found;
 
 /// A Sealed sheet: its tables, its nodes and its wordings.
@@ -47,28 +46,6 @@ impl<S: ReadStore> Sealed<S> {
     /// The wording of a numeral, where there is one.
     pub(crate) fn wording(&self, numeral: Option<u16>) -> Option<&str> {
         self.wordings.get(numeral?)
-    }
-
-    /// Writes the size and the counts of the sheet.
-    pub(crate) fn write_size<W: Write>(&self, out: &mut W) -> io::Result<()> {
-        let Size {
-            width,
-            height,
-            inner,
-            loops,
-            corners,
-        } = self.desk.size();
-        writeln!(
-            out,
-            "sheet {width} x {height}: {inner} inner vertices, {loops} loops, {corners} corners"
-        )
-    }
-
-    /// Writes how the sheet is layered.
-    pub(crate) fn write_layers<W: Write>(&self, out: &mut W) -> io::Result<()> {
-        let nodes = self.store.count();
-        let rounds = self.desk.rounds();
-        writeln!(out, "layered: {nodes} nodes in {rounds} rounds")
     }
 }
 

@@ -43,6 +43,11 @@ impl Tally {
         count(&mut self.bad_lines);
     }
 
+    /// How many tips there were.
+    pub(crate) fn tips(&self) -> u64 {
+        self.answers().saturating_add(self.refused)
+    }
+
     // How many tips were answered.
     fn answers(&self) -> u64 {
         self.faces
@@ -54,7 +59,7 @@ impl Tally {
 /// The counts of all five kinds, in one line.
 impl fmt::Display for Tally {
     fn fmt<W: fmt::Write>(&self, f: &mut fmt::Formatter<W>) -> fmt::Result {
-        let tips = Counted(self.answers().saturating_add(self.refused), "tip", "tips");
+        let tips = Counted(self.tips(), "tip", "tips");
         let faces = Counted(self.faces, "in a face", "in faces");
         let edges = Counted(self.edges, "on an edge", "on edges");
         let vertices = Counted(self.vertices, "at a vertex", "at vertices");

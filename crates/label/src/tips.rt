@@ -23,8 +23,12 @@ pub(crate) enum LineError {
     TooFew,
     /// It has more than three numbers.
     TooMany,
-    /// One of its words is no whole number; words are counted from 1.
+    /// One of its words is no number; words are counted from 1.
     NotANumber { word: u8 },
+    /// One of its numbers is below 0.
+    Negative { word: u8 },
+    /// One of its numbers is a fraction.
+    Fraction { word: u8 },
     /// One of its numbers is above the most that may stand there.
     TooLarge { word: u8, most: u64 },
 }
@@ -37,6 +41,18 @@ impl fmt::Display for LineError {
             LineError::TooFew => write!(f, "too few numbers; a tip has two or three"),
             LineError::TooMany => write!(f, "too many numbers; a tip has two or three"),
             LineError::NotANumber { word } => { write!(f, "word {word} is not a whole number") }
+            LineError::Negative { word } => {
+                write!(
+                    f,
+                    "number {word} is negative; no tip on a sheet has one below 0"
+                )
+            }
+            LineError::Fraction { word } => {
+                write!(
+                    f,
+                    "number {word} is a fraction; write X Y Z for the point (X/Z, Y/Z)"
+                )
+            }
             LineError::TooLarge { word, most } => {
                 write!(f, "number {word} is too large; {most} is the most here")
             }
@@ -44,15 +60,13 @@ impl fmt::Display for LineError {
     }
 }
 
-/// The tip of a line, which comes without its line feed; none where it is blank or a comment.
+/// The tip of a line, which comes without its line feed; none where nothing but blanks stands before its end or its comment.
 pub(crate) fn read_tip(line: &[u8]) -> Result<Option<Tip>, LineError> {
-    if line.first() == Some(&b'#') {
-        return Ok(None);
-    }
-    if line.len() > MOST_LINE {
+    let front = before_comment(line);
+    if front.len() > MOST_LINE {
         return Err(LineError::TooLong);
     }
-    let Ok(text) = str::from_utf8(line) else {
+    let Ok(text) = str::from_utf8(front) else {
         return Err(LineError::NotText);
     };
     let mut words = text.split_ascii_whitespace();
@@ -64,6 +78,11 @@ pub(crate) fn read_tip(line: &[u8]) -> Result<Option<Tip>, LineError> {
         (Some(x), Some(y), Some(z), None) => Ok(Some(Tip::Rational(rational(x, y, z)?))),
         _ => Err(LineError::TooMany),
     }
+}
+
+// What stands before the first `#`.
+fn before_comment(line: &[u8]) -> &[u8] {
+    line.split(|byte| *byte == b'#').next().unwrap_or(line)
 }
 
 fn whole(x: &str, y: &str) -> Result<WholeTip, LineError> {
@@ -91,8 +110,33 @@ fn number<N: FromStr<Err = ParseIntError>>(
     match text.parse::<N>() {
         Ok(number) => Ok(number),
         Err(e) if *e.kind() == IntErrorKind::PosOverflow => Err(LineError::TooLarge { word, most }),
-        Err(_) => Err(LineError::NotANumber { word }),
+        Err(_) => Err(no_number(text, word)),
     }
+}
+
+// What is wrong with a word that spells no whole number.
+fn no_number(text: &str, word: u8) -> LineError {
+    if is_fraction(text) {
+        return LineError::Fraction { word };
+    }
+    match text.strip_prefix('-') {
+        Some(rest) if is_number(rest) || is_fraction(rest) => LineError::Negative { word },
+        _ => LineError::NotANumber { word },
+    }
+}
+
+fn is_number(text: &str) -> bool {
+    !text.is_empty() && text.bytes().all(|byte| byte.is_ascii_digit())
+}
+
+// Digits with one point, comma or slash somewhere among them.
+fn is_fraction(text: &str) -> bool {
+    let marks = text
+        .bytes()
+        .filter(|byte| matches!(*byte, b'.' | b',' | b'/'))
+        .count();
+    let digits = text.bytes().filter(|byte| byte.is_ascii_digit()).count();
+    marks == 1 && digits > 0 && text.len().saturating_sub(digits) == 1
 }
 
 /// Reads the next line in place of the last one, without its line feed, and as far as it matters; whether there was one.
@@ -123,10 +167,22 @@ mod tests {
             (b"", Ok(None)),
             (b" \r", Ok(None)),
             (b"# \xff", Ok(None)),
+            (b" \t# 6 5", Ok(None)),
+            (b"6 65535# the \xff", Ok(Some(whole))),
+            (b"9 14 3 # a # b", Ok(Some(rational))),
+            (b"6 # 5", Err(LineError::TooFew)),
             (b"6", Err(LineError::TooFew)),
             (b"1 2 3 4", Err(LineError::TooMany)),
             (b"6 five", Err(LineError::NotANumber { word: 2 })),
-            (b"-6 5 1", Err(LineError::NotANumber { word: 1 })),
+            (b"-6 5 1", Err(LineError::Negative { word: 1 })),
+            (b"6 -0.5", Err(LineError::Negative { word: 2 })),
+            (b"6 4.5", Err(LineError::Fraction { word: 2 })),
+            (b"1/2 4", Err(LineError::Fraction { word: 1 })),
+            (b"6 5, 1", Err(LineError::Fraction { word: 2 })),
+            (b"6 --5", Err(LineError::NotANumber { word: 2 })),
+            (b"6 1.2.3", Err(LineError::NotANumber { word: 2 })),
+            (b"6 .", Err(LineError::NotANumber { word: 2 })),
+            (b"6 1e3", Err(LineError::NotANumber { word: 2 })),
             (b"6 \xff", Err(LineError::NotText)),
             (
                 b"6 65536",
