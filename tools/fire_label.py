@@ -256,7 +256,8 @@ class LabelRun:
             return "usage"
         if self.asked == "help":
             return "help"
-        data = b"" if self.asked[0] == b"-" else front(self.folder, self.asked[0])
+        given = None if self.stdin == "closed" else b""
+        data = given if self.asked[0] == b"-" else front(self.folder, self.asked[0])
         if data is None:
             return "failure"
         self.is_good = data in GOOD
@@ -267,7 +268,7 @@ class LabelRun:
         """Whether all files and the output are in order, and how many lines are due, where it is known."""
         _, tips, svg, _ = self.asked
         self.can_end = ((svg is None or can_draw(self.folder, svg))
-                        and (tips in (None, b"-") or front(self.folder, tips) is not None)
+                        and (tips is None or (self.stdin != "closed" if tips == b"-" else front(self.folder, tips) is not None))
                         and self.out == "read")
         self.told = told if tips == b"tips" else None
         self.lines = len(self.sheet.loops) if tips is None else self.told

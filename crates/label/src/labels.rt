@@ -90,7 +90,7 @@ impl<W: Write> Labels<W> {
         whole: usize,
         number: usize,
     ) -> Result<Option<Room>, Failure> {
-        for (letters, most, has_words) in [(whole, 8, true), (number, 30, false)] {
+        for (letters, most, has_words) in [(whole, 8, true), (number, 6, false)] {
             let (area, is_inside) = match self.inside(sealed, ring, at, letters)? {
                 Some(area) => (Some(area), true),
                 None => (self.layout.beside(at, letters, most), false),

@@ -216,25 +216,32 @@ fn given(rt: &HostRuntime) -> Result<Vec<String>, Failure> {
 }
 
 // The status of wrong words, or of help, which are told as the parser tells them.
-fn tell_words(rt: &HostRuntime, error: &clap::Error) -> anyhow::Result<ExitCode> {
+fn tell_words(rt: &HostRuntime, error: &clap::Error) -> Result<ExitCode, Failure> {
     error.print(rt)?;
     Ok(ExitCode::from(if error.use_stderr() { 2 } else { 0 }))
 }
 
+// The status with which the program ends, where nothing fails.
+fn status(rt: &HostRuntime) -> Result<ExitCode, Failure> {
+    let words = given(rt)?;
+    match read_words(rt.alloc(), words.as_slice()) {
+        Err(error) => tell_words(rt, &error),
+        Ok(asked) => {
+            run(rt, &asked)?;
+            Ok(ExitCode::SUCCESS)
+        }
+    }
+}
+
 // A failure is told in one line. It ends the program with status 1, and not with an `Err`, which would be printed once more.
 fn main(rt: HostRuntime) -> anyhow::Result<ExitCode> {
-    let outcome = match given(&rt) {
-        Err(failure) => Err(failure),
-        Ok(words) => match read_words(rt.alloc(), words.as_slice()) {
-            Err(error) => return tell_words(&rt, &error),
-            Ok(asked) => run(&rt, &asked),
-        },
-    };
-    let Err(failure) = outcome else {
-        return Ok(ExitCode::SUCCESS);
-    };
-    eprintln!(rt; "label: {failure}")?;
-    Ok(ExitCode::FAILURE)
+    match status(&rt) {
+        Ok(status) => Ok(status),
+        Err(failure) => {
+            eprintln!(rt; "label: {failure}")?;
+            Ok(ExitCode::FAILURE)
+        }
+    }
 }
 
 #[cfg(test)]
