@@ -1,5 +1,4 @@
 use board::Board;
-use lent::LentList;
 use nodes::{Node, ReadStore, SliceStore, WriteStore};
 use plane::{Edge, Point};
 use reader::Reader;
@@ -139,18 +138,4 @@ fn wording_is_a_part_of_the_file(rt: HostRuntime) -> Result<(), Fail> {
     assert_eq!(rt; part.place, 46);
     assert!(rt; part.bytes == b"spring".as_slice());
     Ok(())
-}
-
-#[test]
-fn a_lent_list_is_full_and_ends(rt: HostRuntime) {
-    let mut numbers = [0u16; 2];
-    let mut list = LentList::over(&mut numbers, 1);
-    assert_eq!(rt; list.append(7), Ok(()));
-    assert_eq!(rt; list.append(8), Err(Cause::TableTooShort));
-    assert_eq!(rt; list.count(), 2);
-    assert_eq!(rt; list.read(1), Ok(7));
-    assert_eq!(rt; list.read(2), Err(Cause::OutOfRange));
-    list.empty();
-    assert_eq!(rt; list.count(), 0);
-    assert_eq!(rt; list.read(0), Err(Cause::OutOfRange));
 }
