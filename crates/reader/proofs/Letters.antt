@@ -1,5 +1,5 @@
 -- A wording byte by byte, and by its first byte that is not printable.
-use Rattle.std.proofs.Common.{◌≡◌, ℕ, Bool, zero, suc, ◌+◌, ◌-◌, ◌<◌, ◌≤◌, cond, true, false, List, Ok, Err, Some, None, not, position, length, get_or, take, drop, refl, ap, ◌∙◌, arith}
+use Rattle.std.proofs.Common.{◌≡◌, ℕ, Bool, zero, suc, ◌+◌, ◌-◌, ◌<◌, ◌≤◌, cond, true, false, List, Ok, Err, Some, None, not, position, length, get_or, take, drop, sym, refl, ap, ◌∙◌, arith}
 use Rattle.std.proofs.lemmas.Bool.Decides.{nat_tests}
 use Rattle.std.proofs.lemmas.List.{places}
 use Rattle.std.proofs.lemmas.List.Quantifiers.{position-Some}
@@ -9,7 +9,7 @@ use Rattle.refusal.specs.declared.Cause.TheVariants.{BadWording, FileEnds}
 use Rattle.reader.specs.Reading.{byte, fault}
 use Rattle.reader.specs.Kinds.{between, wording}
 
-wording_step : (file : List ℕ) (n i at : ℕ) → i < n
+pub wording_step : (file : List ℕ) (n i at : ℕ) → i < n
     → wording file (n - i) (at + i) ≡ byte file (at + i) (λ b. cond (between 32 126 b) (wording file (n - (i + 1)) (at + (i + 1))) (Err (fault BadWording (at + i))))
 unfolding wording
 wording_step file n i at h =
@@ -17,10 +17,10 @@ wording_step file n i at h =
     let a : at + i + 1 ≡ at + (i + 1) = omega arith in
     rw (e, ← a) refl
 
-wording_start : (file : List ℕ) (n at : ℕ) → wording file n at ≡ wording file (n - 0) (at + 0)
+pub wording_start : (file : List ℕ) (n at : ℕ) → wording file (n - 0) (at + 0) ≡ wording file n at
 wording_start file n at = let e : n - 0 ≡ n = omega arith in let a : at + 0 ≡ at = omega arith in rw (e, a) refl
 
-wording_done : (file : List ℕ) (n at : ℕ) → wording file (n - n) (at + n) ≡ Ok (at + n)
+pub wording_done : (file : List ℕ) (n at : ℕ) → wording file (n - n) (at + n) ≡ Ok (at + n)
 unfolding wording
 wording_done file n at = let e : n - n ≡ 0 = omega arith in rw e refl
 
@@ -38,7 +38,7 @@ wording_cut file n i at h l = let s = wording_step file n i at h in grind (arith
 -- the first i bytes are printable
 wording_front : (file : List ℕ) (n at i : ℕ) → i ≤ n → at + i ≤ length file → ((k : ℕ) → k < i → between 32 126 (get_or file (at + k) 0) ≡ true)
     → wording file n at ≡ wording file (n - i) (at + i)
-wording_front file n at zero h l ok = wording_start file n at
+wording_front file n at zero h l ok = sym (wording_start file n at)
 wording_front file n at (suc i) h l ok =
     wording_front file n at i (omega arith) (omega arith) (λ k q. ok k (omega arith))
     ∙ wording_goes file n i at (omega arith) (omega arith) (ok i (omega arith))

@@ -6,11 +6,11 @@ use Rattle.std.proofs.lemmas.Bool.Decides.{nat_tests}
 use Rattle.refusal.specs.declared.Refusal.{Refusal}
 use Rattle.sheet.specs.declared.tables.Label.{Label}
 use Rattle.sheet.specs.Files.{contents, labels, sheet}
-use Rattle.sheet.specs.Legal.{LegalSheet}
+use Rattle.sheet.specs.declared.tables.Size.{Size}
 use Rattle.sheet.specs.Load.{roomy, sheet_of}
 use Rattle.reader.specs.Reading.{and_then}
 use Rattle.plane.specs.Edges.{links, ring_edges}
-use Rattle.sheet.specs.Sheets.{Ring, Sheet, corners_in, edges_of, loops_from, loops_of, points_of}
+use Rattle.sheet.specs.Sheets.{Ring, Sheet, corners_in, edges_of, loops_from, loops_of, points_of, size_of}
 use Rattle.plane.specs.Edges.{outside}
 
 links_length : (v : ℕ) (vs : List ℕ) → length (links (v ∷ vs)) ≡ length vs
@@ -56,19 +56,19 @@ unfolding sheet_of contents
 sheet_whole file s at file₁ h f ls l = rw (h, ← f, l) refl
 
 -- the loops of a sheet are few
-pub few_loops : (s : Sheet) → LegalSheet s → length (loops_of s) ≤ 2050
-few_loops s legal = let n = loops_length s in let h = legal.loops in omega arith
+pub few_loops : (s : Sheet) (y : Size) → y ≡ size_of s → y.loops ≤ 2050 → length (loops_of s) ≤ 2050
+few_loops s y is h = let e = ap (λ (z : Size). z.loops) is in let n = loops_length s in omega arith
 
--- the tables have room for a sheet within its limits
-module _ (points edges loops : ℕ) (room : roomy points edges loops ≡ true) (s : Sheet) (legal : LegalSheet s) where
+-- the tables have room for a sheet of a size within its limits
+module _ (points edges loops : ℕ) (room : roomy points edges loops ≡ true) (s : Sheet) (y : Size) (is : y ≡ size_of s) where
   least : (1028 ≤ points) × (6154 ≤ edges) × (2050 ≤ loops)
   least = grind (arith, nat_tests)
 
-  pub room_for_points : length (points_of s) ≤ points
-  room_for_points = let h = legal.few in let l = least.0 in omega arith
+  pub room_for_points : y.inner ≤ 1024 → length (points_of s) ≤ points
+  room_for_points h = let e = ap (λ (z : Size). z.inner) is in let l = least.0 in omega arith
 
-  pub room_for_edges : length (edges_of s) ≤ edges
-  room_for_edges = let h = legal.corners in let l = least.1 in let n = edges_length s in omega arith
+  pub room_for_edges : y.corners ≤ 6150 → length (edges_of s) ≤ edges
+  room_for_edges h = let e = ap (λ (z : Size). z.corners) is in let l = least.1 in let n = edges_length s in omega arith
 
-  pub room_for_loops : length (loops_of s) ≤ loops
-  room_for_loops = let n = few_loops s legal in let l = least.2 in omega arith
+  pub room_for_loops : y.loops ≤ 2050 → length (loops_of s) ≤ loops
+  room_for_loops h = let n = few_loops s y is h in let l = least.2 in omega arith

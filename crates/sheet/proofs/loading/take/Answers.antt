@@ -1,5 +1,6 @@
-use Rattle.std.proofs.Common.{◌≡◌, length, Ok, ap, ◌∙◌}
+use Rattle.std.proofs.Common.{◌≡◌, length, Ok, refl, ap, ◌∙◌}
 use Rattle.sheet.specs.Files.{sheet}
+use Rattle.sheet.specs.Sheets.{size_of}
 use Rattle.sheet.proofs.Legals.{sheet_known}
 use Rattle.sheet.proofs.Loads.{sheet_whole, made_from_ok, room_for_points, room_for_edges, room_for_loops}
 use Rattle.sheet.proofs.loading.take.Goals as goal
@@ -21,7 +22,7 @@ returns c =
     rw t
     record {
       said = ap Ok v.value.2;
-      points = c.keep.ensures.points s _ read (room_for_points points edges loops room s legal);
-      edges = c.keep.ensures.edges s _ read (room_for_edges points edges loops room s legal);
-      loops = c.keep.ensures.loops s _ read (room_for_loops points edges loops room s legal);
+      points = c.keep.ensures.points s _ read (room_for_points points edges loops room s (size_of s) refl legal.few);
+      edges = c.keep.ensures.edges s _ read (room_for_edges points edges loops room s (size_of s) refl legal.corners);
+      loops = c.keep.ensures.loops s _ read (room_for_loops points edges loops room s (size_of s) refl legal.loops);
     }
