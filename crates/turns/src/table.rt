@@ -264,13 +264,12 @@ impl Table {
         let points = points.iter().take(usize::from(size.inner) + outside);
         let edges = edges.iter().take(usize::from(size.corners) + outside);
         let loops = loops.iter().take(usize::from(size.loops));
-        let points_digest = digest(points.flat_map(|point| [point.x, point.y]));
-        let edges_digest = digest(edges.flat_map(|edge| [edge.from, edge.to]));
-        let loops_digest = digest(loops.flat_map(|entry| [
-            entry.numeral,
-            entry.start,
-            entry.corners,
-        ]));
+        let points_digest = points.fold(0, |all, point| digest(all, &[point.x, point.y]));
+        let edges_digest = edges.fold(0, |all, edge| digest(all, &[edge.from, edge.to]));
+        let loops_digest = loops.fold(
+            0,
+            |all, entry| digest(all, &[entry.numeral, entry.start, entry.corners]),
+        );
         let Size {
             width,
             height,
