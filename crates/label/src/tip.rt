@@ -4,7 +4,7 @@ ghost use Rattle.label.specs.Tips.{tip_point};
 ghost use Rattle.std.specs.Prelude.{Some};
 ghost use Rattle.std.proofs.Common.{rules};
 
-use plane::{Kernel, Point, RationalTip, Side, SmallSpot, Test, WholeTip};
+use plane::{Kernel, Point, RationalTip, Side, WholeTip};
 use std::fmt;
 
 /// A tip as its line has it: how many numbers there are tells its kernel.
@@ -42,20 +42,6 @@ impl Kernel for Tip {
         match self {
             Tip::Whole(tip) => tip.side(a, b),
             Tip::Rational(tip) => tip.side(a, b),
-        }
-    }
-
-    fn triangle(&self, a: Point, b: Point, c: Point) -> Test {
-        match self {
-            Tip::Whole(tip) => tip.triangle(a, b, c),
-            Tip::Rational(tip) => tip.triangle(a, b, c),
-        }
-    }
-
-    fn spot(&self) -> Option<SmallSpot> {
-        match self {
-            Tip::Whole(tip) => tip.spot(),
-            Tip::Rational(tip) => tip.spot(),
         }
     }
 
